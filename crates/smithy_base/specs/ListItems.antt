@@ -1,0 +1,7 @@
+-- The items of a list that may not have its vector yet.
+use Rattle.std.specs.Prelude.{Option, None, Some, List, []}
+use Rattle.std.specs.Global.{Vec}
+
+abbrev pub items_of : {T : Type 0} → Option (Vec T) → List T
+items_of None = []
+items_of (Some v) = v.items

@@ -1,0 +1,46 @@
+//! Small enums that many values name.
+
+/// How far a run has come. The order is that of a run without a retry.
+#[derive(Clone, Copy, Debug, PartialEq, Eq)]
+pub enum Phase {
+    BeforeSerialization,
+    Serialization,
+    BeforeTransmit,
+    Transmit,
+    BeforeDeserialization,
+    Deserialization,
+    AfterDeserialization,
+}
+
+/// What a retry would have to do with, as the Smithy `retryable` trait and the service's status
+/// tell it.
+#[derive(Clone, Copy, Debug, PartialEq, Eq)]
+pub enum ErrorKind {
+    /// The connection, or a deadline of one attempt.
+    TransientError,
+    /// The service asks to be asked less often.
+    ThrottlingError,
+    /// The service failed.
+    ServerError,
+    /// The request was at fault.
+    ClientError,
+}
+
+/// What failed in a connector.
+#[derive(Clone, Copy, Debug, PartialEq, Eq)]
+pub enum ConnectorKind {
+    Timeout,
+    /// The caller's request was at fault.
+    User,
+    Io,
+    /// Anything else, with the kind that a retry should count it as.
+    Other(Option<ErrorKind>),
+}
+
+/// Whether a run is stopped before it transmits.
+#[derive(Clone, Copy, Debug, PartialEq, Eq)]
+pub enum StopPoint {
+    None,
+    /// Each attempt ends before its request is transmitted.
+    BeforeTransmit,
+}

@@ -1,0 +1,47 @@
+ghost use Rattle.std.specs.Prelude.{◌≡◌, IfOk};
+
+use crate::OutOfMemory;
+use std::alloc::{AllocError, Global};
+use std::marker::Model;
+use std::rc::Rc;
+
+/// A value that is shared and never changes: a copy of the handle costs the same however large the
+/// value is.
+#[derive(Drop)]
+pub struct Shared<T> {
+    held: Rc<T>,
+}
+
+impl<T> Model for Shared<T> {
+    ghost Value = { T };
+
+    ghost view = { λ s. s.held.value };
+}
+
+impl<T: Drop> Shared<T> {
+    /// Takes the value in.
+    pub fn new(alloc: Global, value: T) -> Result<Shared<T>, OutOfMemory>
+        ensures { IfOk result (λ s. s ≡ value) }
+    {
+        Ok(Shared {
+            held: Rc::new(alloc, value)?,
+        })
+    }
+
+    /// The value.
+    pub fn get(&self) -> &T
+        ensures { result.now ≡ self.now }
+    {
+        Rc::as_ref(&self.held)
+    }
+}
+
+impl<T: Drop> Clone for Shared<T> {
+    ghost is_clone = { λ s copy. copy ≡ s };
+
+    fn clone(&self) -> Result<Shared<T>, AllocError> {
+        Ok(Shared {
+            held: self.held.clone()?,
+        })
+    }
+}
