@@ -1,2 +1,10 @@
 pub mod HeaderList
 pub mod ListItems
+pub mod Setting
+pub mod Layer
+pub mod StandingLayers
+pub mod SettingsView
+pub mod Settings
+pub mod Failures
+pub mod Context
+pub mod Partition

@@ -1,7 +1,9 @@
-ghost use Rattle.std.specs.Prelude.{◌≡◌, [], ◌∷◌, ◌++◌, length, ◌==◌, IfOk, OnOk, OnErr};
+ghost use Rattle.std.specs.List.{AllZip};
+ghost use Rattle.std.specs.Prelude.{◌≡◌, ◌<◌, slice_set, [], ◌∷◌, ◌++◌, length, ◌==◌, IfOk, OnOk, OnErr};
 
 use crate::OutOfMemory;
-use std::alloc::Global;
+use std::alloc::{AllocError, Global};
+use std::fmt;
 use std::marker::Model;
 
 /// A list. An empty one is made without an allocator, and gets one with its first item.
@@ -65,6 +67,18 @@ impl<T> List<T> {
         }
     }
 
+    /// Puts an item in another's place.
+    pub fn replace(&mut self, index: usize, item: T)
+    where
+        T: Drop,
+        requires { index < length self.old }
+        ensures { self.new ≡ slice_set self.old index item }
+    {
+        if let Some(items) = &mut self.items {
+            items[index] = item;
+        }
+    }
+
     /// The items.
     pub fn as_slice(&self) -> &[T]
         ensures { result.now ≡ self.now }
@@ -87,5 +101,24 @@ impl<T> List<T> {
         ensures { result ≡ (length self.now == 0) }
     {
         self.as_slice().is_empty()
+    }
+}
+
+impl<T: fmt::Debug> fmt::Debug for List<T> {
+    fn fmt<W: fmt::Write>(&self, f: &mut fmt::Formatter<W>) -> fmt::Result {
+        fmt::Debug::fmt(self.as_slice(), f)
+    }
+}
+
+impl<T: Clone + Drop> Clone for List<T> {
+    ghost is_clone = { λ list copy. AllZip T.is_clone list copy };
+
+    fn clone(&self) -> Result<List<T>, AllocError> {
+        match &self.items {
+            Some(items) => Ok(List {
+                items: Some(items.clone()?),
+            }),
+            None => Ok(List { items: None }),
+        }
     }
 }

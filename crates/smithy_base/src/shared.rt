@@ -2,6 +2,7 @@ ghost use Rattle.std.specs.Prelude.{◌≡◌, IfOk};
 
 use crate::OutOfMemory;
 use std::alloc::{AllocError, Global};
+use std::fmt;
 use std::marker::Model;
 use std::rc::Rc;
 
@@ -43,5 +44,11 @@ impl<T: Drop> Clone for Shared<T> {
         Ok(Shared {
             held: self.held.clone()?,
         })
+    }
+}
+
+impl<T: fmt::Debug + Drop> fmt::Debug for Shared<T> {
+    fn fmt<W: fmt::Write>(&self, f: &mut fmt::Formatter<W>) -> fmt::Result {
+        self.get().fmt(f)
     }
 }

@@ -1,0 +1,41 @@
+//! Who asks, and where the request goes.
+ghost use Rattle.std.specs.Prelude.{◌≡◌};
+
+use crate::{Blob, List, Text};
+use std::alloc::AllocError;
+
+/// An identity that a request is signed with.
+#[derive(Debug, Drop)]
+pub struct Identity {
+    /// What the signer reads, such as a key or a token.
+    pub content: Blob,
+    /// The moment in nanoseconds since the epoch from which on it is no longer valid.
+    pub expiration: Option<u64>,
+}
+
+impl Clone for Identity {
+    ghost is_clone = { λ identity copy. copy ≡ identity };
+
+    fn clone(&self) -> Result<Identity, AllocError> {
+        Ok(Identity {
+            content: self.content.clone()?,
+            expiration: self.expiration,
+        })
+    }
+}
+
+/// A header that an endpoint sets on its requests.
+#[derive(Debug, Drop)]
+pub struct EndpointHeader {
+    pub name: Text,
+    pub values: List<Text>,
+}
+
+/// Where requests go.
+#[derive(Debug, Drop)]
+pub struct Endpoint {
+    pub url: Text,
+    pub headers: List<EndpointHeader>,
+    /// The auth schemes that the endpoint takes, where it says so.
+    pub schemes: Option<List<Text>>,
+}
