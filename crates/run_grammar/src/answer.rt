@@ -1,0 +1,118 @@
+//! What a world answers.
+ghost use Rattle.std.specs.Prelude.{◌≡◌};
+
+use smithy_base::{
+    Blob, Choice, ChooseNote, ConnectorKind, DecideNote, Endpoint, HookAnswer, HttpRequest,
+    HttpResponse, Identity, Layer, Outcome, Shared, Text,
+};
+use std::alloc::AllocError;
+
+/// The auth scheme and the identity that a request is signed with.
+#[derive(Drop)]
+pub struct Chosen {
+    /// The scheme's id.
+    pub scheme: Text,
+    pub identity: Identity,
+    /// The endpoint, where it was resolved already.
+    pub endpoint: Option<Shared<Endpoint>>,
+    /// What is set with the choice.
+    pub settings: Layer,
+    /// Where the identity came from, where the world notes it.
+    pub note: Option<ChooseNote>,
+}
+
+impl Clone for Chosen {
+    ghost is_clone = { λ chosen copy. copy ≡ chosen };
+
+    fn clone(&self) -> Result<Chosen, AllocError> {
+        let endpoint = match &self.endpoint {
+            Some(endpoint) => Some(endpoint.clone()?),
+            None => None,
+        };
+        Ok(Chosen {
+            scheme: self.scheme.clone()?,
+            identity: self.identity.clone()?,
+            endpoint,
+            settings: self.settings.clone()?,
+            note: self.note,
+        })
+    }
+}
+
+/// An answer. Which ones fit a question is said by its kind.
+#[derive(Drop)]
+pub enum Answer {
+    /// Not yet: the question is asked again.
+    Pending,
+    /// The world has no such part.
+    Absent,
+    Failed(Text),
+    /// The request was not sent, or no response came.
+    ConnectorFailed(ConnectorKind, Text),
+    Layer(Layer),
+    Hooked(HookAnswer),
+    Request(HttpRequest),
+    /// The request's body, in memory.
+    Loaded(Blob),
+    /// A first attempt is made.
+    Go,
+    /// No first attempt is made.
+    No,
+    /// A first attempt is made after so many nanoseconds.
+    Delay(u64),
+    Started,
+    /// The sleep is over.
+    Ready,
+    Chosen(Chosen),
+    Endpoint(Shared<Endpoint>),
+    Response(HttpResponse),
+    /// The operation doesn't stream: its body is read.
+    NotStreaming,
+    Outcome(Outcome),
+    /// The response's body, whole.
+    Read(Blob),
+    Decided(Choice, Option<DecideNote>),
+    Abandoned,
+    Parked,
+    /// The world had no memory for its answer. It stands in a log alone, and fits no question.
+    NoMemory,
+}
+
+impl Clone for Answer {
+    ghost is_clone = { λ answer copy. copy ≡ answer };
+
+    fn clone(&self) -> Result<Answer, AllocError> {
+        Ok(match self {
+            Answer::Pending => Answer::Pending,
+            Answer::Absent => Answer::Absent,
+            Answer::Failed(text) => Answer::Failed(text.clone()?),
+            Answer::ConnectorFailed(kind, text) => Answer::ConnectorFailed(*kind, text.clone()?),
+            Answer::Layer(layer) => Answer::Layer(layer.clone()?),
+            Answer::Hooked(answer) => Answer::Hooked(answer.clone()?),
+            Answer::Request(request) => Answer::Request(request.clone()?),
+            Answer::Loaded(bytes) => Answer::Loaded(bytes.clone()?),
+            Answer::Go => Answer::Go,
+            Answer::No => Answer::No,
+            Answer::Delay(nanos) => Answer::Delay(*nanos),
+            Answer::Started => Answer::Started,
+            Answer::Ready => Answer::Ready,
+            Answer::Chosen(chosen) => Answer::Chosen(chosen.clone()?),
+            Answer::Endpoint(endpoint) => Answer::Endpoint(endpoint.clone()?),
+            Answer::Response(response) => Answer::Response(response.clone()?),
+            Answer::NotStreaming => Answer::NotStreaming,
+            Answer::Outcome(outcome) => Answer::Outcome(outcome.clone()?),
+            Answer::Read(bytes) => Answer::Read(bytes.clone()?),
+            Answer::Decided(choice, note) => Answer::Decided(*choice, *note),
+            Answer::Abandoned => Answer::Abandoned,
+            Answer::Parked => Answer::Parked,
+            Answer::NoMemory => Answer::NoMemory,
+        })
+    }
+}
+
+/// One call of a world: what it was asked, and what it answered.
+#[derive(Drop)]
+pub struct Entry {
+    pub question: crate::Question,
+    pub answer: Answer,
+}

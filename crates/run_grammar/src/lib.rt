@@ -1,0 +1,12 @@
+//! What a run of an operation is: the questions and answers of a log, what stands after them, and
+//! which lists of them are runs.
+#![tactic(auto)]
+
+pub mod answer;
+pub mod kind;
+pub mod question;
+
+pub use answer::{Answer, Chosen, Entry};
+pub use kind::{Abandonable, ConfigureStage, Kind, Role};
+pub use question::Question;
+pub use smithy_base::StopPoint;

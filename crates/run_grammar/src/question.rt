@@ -1,0 +1,125 @@
+//! What a world is asked.
+ghost use Rattle.std.specs.Prelude.{◌≡◌};
+ghost use Rattle.run_grammar.specs.Question.{kind_of_question, nanos_of};
+
+use crate::kind::{Abandonable, ConfigureStage, Kind, Role};
+use smithy_base::{
+    Endpoint, HookView, HttpRequest, HttpResponse, Identity, Outcome, Payload, Settings, Shared,
+    Text,
+};
+
+/// A question with the parts of the run that it hands on. A part that doesn't stand is None.
+#[derive(Drop)]
+pub enum Question {
+    Configure {
+        stage: ConfigureStage,
+        settings: Settings,
+    },
+    Hook {
+        hook: smithy_base::Hook,
+        view: HookView,
+    },
+    Serialize {
+        input: Option<Payload>,
+        settings: Settings,
+    },
+    Load {
+        request: Option<HttpRequest>,
+    },
+    Initial {
+        settings: Settings,
+    },
+    Start {
+        role: Role,
+        /// How long the sleep is, in nanoseconds.
+        nanos: Option<u64>,
+    },
+    Wait {
+        role: Role,
+    },
+    Choose {
+        settings: Settings,
+    },
+    Endpoint {
+        settings: Settings,
+        identity: Option<Identity>,
+    },
+    Apply {
+        settings: Settings,
+        request: Option<HttpRequest>,
+        endpoint: Option<Shared<Endpoint>>,
+    },
+    Sign {
+        settings: Settings,
+        request: Option<HttpRequest>,
+        scheme: Option<Text>,
+        identity: Option<Identity>,
+        endpoint: Option<Shared<Endpoint>>,
+    },
+    Transmit {
+        settings: Settings,
+        request: Option<HttpRequest>,
+    },
+    Stream {
+        settings: Settings,
+        response: Option<HttpResponse>,
+    },
+    Body {
+        settings: Settings,
+        response: Option<HttpResponse>,
+    },
+    Deserialize {
+        settings: Settings,
+        response: Option<HttpResponse>,
+    },
+    Decide {
+        settings: Settings,
+        request: Option<HttpRequest>,
+        response: Option<HttpResponse>,
+        outcome: Option<Outcome>,
+        /// The number of the attempt, from 1.
+        attempt: u64,
+    },
+    Abandon {
+        abandoned: Abandonable,
+    },
+    Park,
+}
+
+impl Question {
+    /// The question's kind.
+    pub fn kind(&self) -> Kind
+        ensures { result ≡ kind_of_question self.now }
+    {
+        match self {
+            Question::Configure { stage, .. } => Kind::Configure(*stage),
+            Question::Hook { hook, .. } => Kind::Hook(*hook),
+            Question::Serialize { .. } => Kind::Serialize,
+            Question::Load { .. } => Kind::Load,
+            Question::Initial { .. } => Kind::Initial,
+            Question::Start { role, .. } => Kind::Start(*role),
+            Question::Wait { role } => Kind::Wait(*role),
+            Question::Choose { .. } => Kind::Choose,
+            Question::Endpoint { .. } => Kind::Endpoint,
+            Question::Apply { .. } => Kind::Apply,
+            Question::Sign { .. } => Kind::Sign,
+            Question::Transmit { .. } => Kind::Transmit,
+            Question::Stream { .. } => Kind::Stream,
+            Question::Body { .. } => Kind::Body,
+            Question::Deserialize { .. } => Kind::Deserialize,
+            Question::Decide { .. } => Kind::Decide,
+            Question::Abandon { abandoned } => Kind::Abandon(*abandoned),
+            Question::Park => Kind::Park,
+        }
+    }
+
+    /// How long a sleep is asked for, in nanoseconds. Only Start asks for one.
+    pub fn nanos(&self) -> Option<u64>
+        ensures { result ≡ nanos_of self.now }
+    {
+        match self {
+            Question::Start { nanos, .. } => *nanos,
+            _ => None,
+        }
+    }
+}
