@@ -1,0 +1,12 @@
+pub mod Spots
+pub mod Down
+pub mod Up
+pub mod Positions
+pub mod Steps
+pub mod Rounds
+pub mod Paths
+pub mod Finishing
+pub mod Going
+pub mod Closed
+pub mod TheLaws
+pub mod CaseProofs

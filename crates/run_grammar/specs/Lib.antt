@@ -1,1 +1,13 @@
 pub mod Question
+pub mod Writes
+pub mod Entry
+pub mod Fits
+pub mod Change
+pub mod Standing
+pub mod Production
+pub mod Words
+pub mod Grammar
+pub mod Machine
+pub mod Laws
+pub mod Cases
+pub mod Finals

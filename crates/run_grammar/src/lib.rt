@@ -3,10 +3,14 @@
 #![tactic(auto)]
 
 pub mod answer;
+mod apply;
 pub mod kind;
+pub mod laws;
 pub mod question;
+pub mod standing;
 
 pub use answer::{Answer, Chosen, Entry};
 pub use kind::{Abandonable, ConfigureStage, Kind, Role};
 pub use question::Question;
 pub use smithy_base::StopPoint;
+pub use standing::Standing;

@@ -31,7 +31,8 @@ impl Clone for HookView {
     }
 }
 
-fn copy_payload(payload: &Option<Payload>) -> Result<Option<Payload>, AllocError>
+/// A copy of a payload, where there is one.
+pub fn copy_payload(payload: &Option<Payload>) -> Result<Option<Payload>, AllocError>
     ensures { IfOk result (λ copy. copy ≡ payload.now) }
 {
     match payload {

@@ -1,0 +1,547 @@
+//! How an entry changes what stands.
+ghost use Rattle.std.specs.Prelude.{◌≡◌, None, true, IfOk, OnOk, OnErr};
+ghost use Rattle.run_grammar.specs.Change as change;
+ghost use Rattle.run_grammar.specs.Writes.{writes_input, writes_request, writes_response, writes_outcome};
+
+use crate::standing::{copy_endpoint, copy_text};
+use crate::{Answer, Chosen, ConfigureStage, Kind, Role, Standing};
+use smithy_base::{
+    Body, Change, Choice, Fault, FaultKind, Hook, HookAnswer, Layer, OutOfMemory, Outcome, Phase,
+    Text,
+};
+use std::alloc::Global;
+
+const ABSENT: &'static str = "absent";
+
+const REFUSED: &'static str =
+    "the retry strategy indicates that an initial request shouldn't be made, but it didn't specify why";
+
+impl Standing {
+    /// Takes in an answer to a question of this kind, which asked for a sleep of `nanos`
+    /// nanoseconds where it is a Start.
+    #[tactic(auto, unfolding(crate::specs::Change::changed))]
+    pub fn take_in(
+        &mut self,
+        alloc: Global,
+        kind: Kind,
+        nanos: Option<u64>,
+        answer: &Answer,
+    ) -> Result<(), OutOfMemory>
+        ensures ok { OnOk result (self.new ≡ change.changed kind nanos answer.now self.old) }
+        ensures err { OnErr result (self.new ≡ self.old) }
+    {
+        match kind {
+            Kind::Configure(stage) => self.configured(alloc, stage, answer),
+            Kind::Hook(hook) => self.hooked(alloc, hook, answer),
+            Kind::Serialize => self.serialized(answer),
+            Kind::Load => self.loaded(answer),
+            Kind::Initial => self.granted(answer),
+            Kind::Start(role) => self.started(role, nanos, answer),
+            Kind::Wait(role) => self.waited(alloc, role, answer),
+            Kind::Choose => self.chosen(alloc, answer),
+            Kind::Endpoint => self.resolved(answer),
+            Kind::Apply | Kind::Sign => self.rewritten(answer),
+            Kind::Transmit => self.transmitted(answer),
+            Kind::Stream => self.streamed(answer),
+            Kind::Body => self.body_read(answer),
+            Kind::Deserialize => self.deserialized(answer),
+            Kind::Decide => self.decided(answer),
+            Kind::Abandon(_) | Kind::Park => Ok(()),
+        }
+    }
+
+    fn fail(&mut self, kind: FaultKind, text: Text)
+        ensures { self.new ≡ change.fails_with self.old kind text }
+    {
+        self.context.fail(Fault { kind, text });
+    }
+
+    fn be_absent(&mut self)
+        ensures { self.new ≡ change.absent self.old }
+    {
+        self.fail(FaultKind::Other, Text::from_static(ABSENT));
+    }
+
+    // An untyped failure, or an absent part.
+    fn fail_by(&mut self, answer: &Answer) -> Result<(), OutOfMemory>
+        ensures ok { OnOk result (self.new ≡ change.or_fails self.old answer.now) }
+        ensures err { OnErr result (self.new ≡ self.old) }
+    {
+        match answer {
+            Answer::Failed(text) => {
+                self.fail(FaultKind::Other, text.clone()?);
+                Ok(())
+            }
+            Answer::Absent => {
+                self.be_absent();
+                Ok(())
+            }
+            _ => Ok(()),
+        }
+    }
+
+    fn configured(
+        &mut self,
+        alloc: Global,
+        stage: ConfigureStage,
+        answer: &Answer,
+    ) -> Result<(), OutOfMemory>
+        ensures ok { OnOk result (self.new ≡ change.on_configure stage self.old answer.now) }
+        ensures err { OnErr result (self.new ≡ self.old) }
+    {
+        match answer {
+            Answer::Layer(layer) => self.layered(alloc, stage, layer),
+            _ => self.fail_by(answer),
+        }
+    }
+
+    fn layered(
+        &mut self,
+        alloc: Global,
+        stage: ConfigureStage,
+        layer: &Layer,
+    ) -> Result<(), OutOfMemory>
+        ensures ok { OnOk result (self.new ≡ change.configured_by stage self.old layer.now) }
+        ensures err { OnErr result (self.new ≡ self.old) }
+    {
+        match stage {
+            ConfigureStage::Client | ConfigureStage::Operation => {
+                let frozen = layer.clone()?.freeze();
+                self.context.view.settings.push_layer(alloc, frozen)
+            }
+            ConfigureStage::Final => self.context.view.settings.merge(alloc, layer),
+        }
+    }
+
+    fn hooked(&mut self, alloc: Global, hook: Hook, answer: &Answer) -> Result<(), OutOfMemory>
+        ensures ok { OnOk result (self.new ≡ change.on_hook hook self.old answer.now) }
+        ensures err { OnErr result (self.new ≡ self.old) }
+    {
+        match answer {
+            Answer::Hooked(answer) => self.hook_answered(alloc, hook, answer),
+            _ => Ok(()),
+        }
+    }
+
+    fn hook_answered(
+        &mut self,
+        alloc: Global,
+        hook: Hook,
+        answer: &HookAnswer,
+    ) -> Result<(), OutOfMemory>
+        ensures ok { OnOk result (self.new ≡ change.hooked_by hook self.old answer.now) }
+        ensures err { OnErr result (self.new ≡ self.old) }
+    {
+        let written = copy_change(&answer.change)?;
+        let failure = copy_text(&answer.failure)?;
+        self.context.view.settings.merge(alloc, &answer.settings)?;
+        self.write(hook, written);
+        if let Some(text) = failure {
+            self.fail(FaultKind::Interceptor(hook), text);
+        }
+        Ok(())
+    }
+
+    // Makes the change that this hook may write, and ignores any other.
+    fn write(&mut self, hook: Hook, written: Option<Change>)
+        ensures { self.new ≡ change.written_by hook self.old written }
+    {
+        match written {
+            Some(Change::Input(input)) => {
+                if writes_input(hook) {
+                    self.context.view.input = Some(input);
+                }
+            }
+            Some(Change::Request(request)) => {
+                if writes_request(hook) {
+                    self.context.view.request = Some(request);
+                }
+            }
+            Some(Change::Response(response)) => {
+                if writes_response(hook) {
+                    self.context.view.response = Some(response);
+                }
+            }
+            Some(Change::Outcome(outcome)) => {
+                if writes_outcome(hook) {
+                    self.context.view.outcome = Some(outcome);
+                }
+            }
+            None => {}
+        }
+    }
+
+    fn serialized(&mut self, answer: &Answer) -> Result<(), OutOfMemory>
+        ensures ok { OnOk result (self.new ≡ change.on_serialize self.old answer.now) }
+        ensures err { OnErr result (self.new ≡ self.old) }
+    {
+        match answer {
+            Answer::Request(request) => {
+                let request = request.clone()?;
+                self.begin_serialization();
+                self.context.view.request = Some(request);
+                if !self.loads_body() {
+                    self.context.phase = Phase::BeforeTransmit;
+                }
+                Ok(())
+            }
+            Answer::Failed(text) => {
+                let text = text.clone()?;
+                self.begin_serialization();
+                self.fail(FaultKind::Other, text);
+                Ok(())
+            }
+            Answer::Absent => {
+                self.begin_serialization();
+                self.be_absent();
+                Ok(())
+            }
+            _ => {
+                self.begin_serialization();
+                Ok(())
+            }
+        }
+    }
+
+    fn begin_serialization(&mut self)
+        ensures { self.new ≡ change.serializing self.old }
+    {
+        self.context.view.input = None;
+        self.context.phase = Phase::Serialization;
+    }
+
+    fn loaded(&mut self, answer: &Answer) -> Result<(), OutOfMemory>
+        ensures ok { OnOk result (self.new ≡ change.on_load self.old answer.now) }
+        ensures err { OnErr result (self.new ≡ self.old) }
+    {
+        match answer {
+            Answer::Loaded(bytes) => {
+                let body = Body::Bytes(bytes.clone()?);
+                if let Some(request) = &mut self.context.view.request {
+                    request.body = body;
+                }
+                self.context.phase = Phase::BeforeTransmit;
+                Ok(())
+            }
+            _ => self.fail_by(answer),
+        }
+    }
+
+    fn granted(&mut self, answer: &Answer) -> Result<(), OutOfMemory>
+        ensures ok { OnOk result (self.new ≡ change.on_initial self.old answer.now) }
+        ensures err { OnErr result (self.new ≡ self.old) }
+    {
+        match answer {
+            Answer::Go => {
+                self.context.save_checkpoint()?;
+                self.context.view.attempt = 1;
+                Ok(())
+            }
+            Answer::No => {
+                self.fail(FaultKind::Other, Text::from_static(REFUSED));
+                Ok(())
+            }
+            Answer::Delay(nanos) => {
+                self.delay = Some(*nanos);
+                Ok(())
+            }
+            _ => self.fail_by(answer),
+        }
+    }
+
+    // Begins a further attempt, where a checkpoint stands.
+    fn rewind(&mut self) -> Result<(), OutOfMemory>
+        ensures ok { OnOk result (self.new ≡ change.rewound self.old) }
+        ensures err { OnErr result (self.new ≡ self.old) }
+    {
+        if self.context.checkpoint.is_none() {
+            return Ok(());
+        }
+        self.context.restore_checkpoint()?;
+        self.context.view.attempt = self.context.view.attempt.saturating_add(1);
+        self.scheme = None;
+        self.identity = None;
+        self.endpoint = None;
+        Ok(())
+    }
+
+    fn started(
+        &mut self,
+        role: Role,
+        nanos: Option<u64>,
+        answer: &Answer,
+    ) -> Result<(), OutOfMemory>
+        ensures ok { OnOk result (self.new ≡ change.on_start role nanos self.old answer.now) }
+        ensures err { OnErr result (self.new ≡ self.old) }
+    {
+        match answer {
+            Answer::Started => match role {
+                Role::Operation => {
+                    self.operation_deadline = nanos;
+                    Ok(())
+                }
+                Role::Attempt => {
+                    self.attempt_deadline = nanos;
+                    Ok(())
+                }
+                Role::Retry => self.rewind(),
+                Role::Send | Role::LongPoll => Ok(()),
+            },
+            Answer::Absent => {
+                if matches!(role, Role::Send | Role::Retry) {
+                    self.be_absent();
+                }
+                Ok(())
+            }
+            _ => Ok(()),
+        }
+    }
+
+    fn waited(&mut self, alloc: Global, role: Role, answer: &Answer) -> Result<(), OutOfMemory>
+        ensures ok { OnOk result (self.new ≡ change.on_wait role self.old answer.now) }
+        ensures err { OnErr result (self.new ≡ self.old) }
+    {
+        match answer {
+            Answer::Ready => match role {
+                Role::Operation => {
+                    let nanos = self.operation_deadline.unwrap_or(0);
+                    let text = operation_timeout_text(alloc, nanos)?;
+                    self.fail(FaultKind::Timeout, text);
+                    Ok(())
+                }
+                Role::Attempt => {
+                    let nanos = self.attempt_deadline.unwrap_or(0);
+                    let text = attempt_timeout_text(alloc, nanos)?;
+                    self.fail(FaultKind::Timeout, text);
+                    Ok(())
+                }
+                Role::Send | Role::Retry | Role::LongPoll => Ok(()),
+            },
+            _ => Ok(()),
+        }
+    }
+
+    fn chosen(&mut self, alloc: Global, answer: &Answer) -> Result<(), OutOfMemory>
+        ensures ok { OnOk result (self.new ≡ change.on_choose self.old answer.now) }
+        ensures err { OnErr result (self.new ≡ self.old) }
+    {
+        match answer {
+            Answer::Chosen(chosen) => self.choose(alloc, chosen),
+            _ => self.fail_by(answer),
+        }
+    }
+
+    fn choose(&mut self, alloc: Global, chosen: &Chosen) -> Result<(), OutOfMemory>
+        ensures ok { OnOk result (self.new ≡ change.chosen_by self.old chosen.now) }
+        ensures err { OnErr result (self.new ≡ self.old) }
+    {
+        let scheme = chosen.scheme.clone()?;
+        let identity = chosen.identity.clone()?;
+        let endpoint = copy_endpoint(&chosen.endpoint)?;
+        self.context.view.settings.merge(alloc, &chosen.settings)?;
+        self.scheme = Some(scheme);
+        self.identity = Some(identity);
+        self.endpoint = endpoint;
+        Ok(())
+    }
+
+    fn resolved(&mut self, answer: &Answer) -> Result<(), OutOfMemory>
+        ensures ok { OnOk result (self.new ≡ change.on_endpoint self.old answer.now) }
+        ensures err { OnErr result (self.new ≡ self.old) }
+    {
+        match answer {
+            Answer::Endpoint(endpoint) => {
+                self.endpoint = Some(endpoint.clone()?);
+                Ok(())
+            }
+            _ => self.fail_by(answer),
+        }
+    }
+
+    fn rewritten(&mut self, answer: &Answer) -> Result<(), OutOfMemory>
+        ensures ok { OnOk result (self.new ≡ change.on_request self.old answer.now) }
+        ensures err { OnErr result (self.new ≡ self.old) }
+    {
+        match answer {
+            Answer::Request(request) => {
+                self.context.view.request = Some(request.clone()?);
+                Ok(())
+            }
+            _ => self.fail_by(answer),
+        }
+    }
+
+    fn transmitted(&mut self, answer: &Answer) -> Result<(), OutOfMemory>
+        ensures ok { OnOk result (self.new ≡ change.on_transmit self.old answer.now) }
+        ensures err { OnErr result (self.new ≡ self.old) }
+    {
+        match answer {
+            Answer::Pending => Ok(()),
+            Answer::Response(response) => {
+                self.context.view.response = Some(response.clone()?);
+                self.context.phase = Phase::BeforeDeserialization;
+                Ok(())
+            }
+            Answer::ConnectorFailed(kind, text) => {
+                let text = text.clone()?;
+                self.context.phase = Phase::Transmit;
+                self.fail(FaultKind::Connector(*kind), text);
+                Ok(())
+            }
+            _ => {
+                self.fail_by(answer)?;
+                self.context.phase = Phase::Transmit;
+                Ok(())
+            }
+        }
+    }
+
+    fn streamed(&mut self, answer: &Answer) -> Result<(), OutOfMemory>
+        ensures ok { OnOk result (self.new ≡ change.on_stream self.old answer.now) }
+        ensures err { OnErr result (self.new ≡ self.old) }
+    {
+        match answer {
+            Answer::Outcome(outcome) => self.settle(outcome),
+            Answer::Absent => {
+                self.settle_absent();
+                Ok(())
+            }
+            _ => {
+                self.context.phase = Phase::Deserialization;
+                Ok(())
+            }
+        }
+    }
+
+    fn body_read(&mut self, answer: &Answer) -> Result<(), OutOfMemory>
+        ensures ok { OnOk result (self.new ≡ change.on_body self.old answer.now) }
+        ensures err { OnErr result (self.new ≡ self.old) }
+    {
+        match answer {
+            Answer::Read(bytes) => {
+                let body = Body::Bytes(bytes.clone()?);
+                if let Some(response) = &mut self.context.view.response {
+                    response.body = body;
+                }
+                Ok(())
+            }
+            Answer::Failed(text) => {
+                let text = text.clone()?;
+                self.fail(FaultKind::Response, text);
+                self.context.phase = Phase::AfterDeserialization;
+                Ok(())
+            }
+            Answer::Absent => {
+                self.settle_absent();
+                Ok(())
+            }
+            _ => Ok(()),
+        }
+    }
+
+    fn deserialized(&mut self, answer: &Answer) -> Result<(), OutOfMemory>
+        ensures ok { OnOk result (self.new ≡ change.on_deserialize self.old answer.now) }
+        ensures err { OnErr result (self.new ≡ self.old) }
+    {
+        match answer {
+            Answer::Outcome(outcome) => self.settle(outcome),
+            Answer::Absent => {
+                self.settle_absent();
+                Ok(())
+            }
+            _ => Ok(()),
+        }
+    }
+
+    // The outcome of the response stands.
+    fn settle(&mut self, outcome: &Outcome) -> Result<(), OutOfMemory>
+        ensures ok { OnOk result (self.new ≡ change.settled self.old outcome.now) }
+        ensures err { OnErr result (self.new ≡ self.old) }
+    {
+        self.context.view.outcome = Some(outcome.clone()?);
+        self.context.phase = Phase::AfterDeserialization;
+        Ok(())
+    }
+
+    fn settle_absent(&mut self)
+        ensures { self.new ≡ change.settled_absent self.old }
+    {
+        self.be_absent();
+        self.context.phase = Phase::AfterDeserialization;
+    }
+
+    fn decided(&mut self, answer: &Answer) -> Result<(), OutOfMemory>
+        ensures ok { OnOk result (self.new ≡ change.on_decide self.old answer.now) }
+        ensures err { OnErr result (self.new ≡ self.old) }
+    {
+        match answer {
+            Answer::Decided(choice, _) => match choice {
+                Choice::Yes => self.rewind(),
+                Choice::No => Ok(()),
+                Choice::Delay(nanos) => {
+                    self.delay = Some(*nanos);
+                    Ok(())
+                }
+            },
+            _ => self.fail_by(answer),
+        }
+    }
+}
+
+fn copy_change(part: &Option<Change>) -> Result<Option<Change>, OutOfMemory>
+    ensures { IfOk result (λ copy. copy ≡ part.now) }
+{
+    match part {
+        Some(part) => Ok(Some(part.clone()?)),
+        None => Ok(None),
+    }
+}
+
+fn operation_timeout_text(alloc: Global, nanos: u64) -> Result<Text, OutOfMemory>
+    ensures { IfOk result (λ t. t ≡ change.operation_timeout_text nanos) }
+{
+    let text = format!(in alloc;
+        "operation timeout (all attempts including retries) occurred after {nanos} ns"
+    )?;
+    Text::from_string(text)
+}
+
+fn attempt_timeout_text(alloc: Global, nanos: u64) -> Result<Text, OutOfMemory>
+    ensures { IfOk result (λ t. t ≡ change.attempt_timeout_text nanos) }
+{
+    let text = format!(in alloc;
+        "operation attempt timeout (single attempt) occurred after {nanos} ns"
+    )?;
+    Text::from_string(text)
+}
+
+fn writes_input(hook: Hook) -> bool
+    ensures { result ≡ writes_input hook }
+{
+    matches!(hook, Hook::ModifyBeforeSerialization)
+}
+
+fn writes_request(hook: Hook) -> bool
+    ensures { result ≡ writes_request hook }
+{
+    matches!(
+        hook,
+        Hook::ModifyBeforeRetryLoop | Hook::ModifyBeforeSigning | Hook::ModifyBeforeTransmit
+    )
+}
+
+fn writes_response(hook: Hook) -> bool
+    ensures { result ≡ writes_response hook }
+{
+    matches!(hook, Hook::ModifyBeforeDeserialization)
+}
+
+/// Whether the hook may write the outcome.
+pub(crate) fn writes_outcome(hook: Hook) -> bool
+    ensures { result ≡ writes_outcome hook }
+{
+    matches!(
+        hook,
+        Hook::ModifyBeforeAttemptCompletion | Hook::ModifyBeforeCompletion
+    )
+}

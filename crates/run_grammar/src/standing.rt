@@ -1,0 +1,212 @@
+//! What stands in a run after the entries so far.
+ghost use Rattle.std.specs.Prelude.{◌≡◌, IfOk, true};
+ghost use Rattle.run_grammar.specs.Change.{nanos_for, loads_body, timeouts};
+ghost use Rattle.run_grammar.specs.Standing.{starting, asks, on_request_way, on_settled_way};
+
+use crate::Question;
+use crate::kind::{Kind, Role};
+use smithy_base::intercept::{copy_outcome, copy_payload, copy_request, copy_response};
+use smithy_base::{
+    Endpoint, Identity, InterceptorContext, OutOfMemory, Payload, Setting, SettingKey, Settings,
+    Shared, Text, TimeoutConfig,
+};
+use std::alloc::AllocError;
+
+/// What stands in a run: the context that interceptors see, and what only the engine reads.
+#[derive(Drop)]
+pub struct Standing {
+    pub context: InterceptorContext,
+    /// The id of the auth scheme.
+    pub scheme: Option<Text>,
+    pub identity: Option<Identity>,
+    pub endpoint: Option<Shared<Endpoint>>,
+    /// The last delay that a grant or a decision asked for, in nanoseconds.
+    pub delay: Option<u64>,
+    /// How long the started deadline of the operation is, in nanoseconds.
+    pub operation_deadline: Option<u64>,
+    /// How long the started deadline of the attempt is, in nanoseconds.
+    pub attempt_deadline: Option<u64>,
+}
+
+impl Standing {
+    /// What stands at a run's start: the input, and nothing else. It takes no memory.
+    pub fn new(input: Payload) -> Standing
+        ensures { result ≡ starting input }
+    {
+        Standing {
+            context: InterceptorContext::new(input),
+            scheme: None,
+            identity: None,
+            endpoint: None,
+            delay: None,
+            operation_deadline: None,
+            attempt_deadline: None,
+        }
+    }
+
+    /// How long the sleep of this role is, in nanoseconds: the standing timeout of that name, or
+    /// the standing delay.
+    pub fn nanos_for(&self, role: Role) -> Option<u64>
+        ensures { result ≡ nanos_for role self.now }
+    {
+        match role {
+            Role::Operation => timeouts(&self.context.view.settings)?.operation,
+            Role::Attempt => timeouts(&self.context.view.settings)?.attempt,
+            Role::Send | Role::Retry => self.delay,
+            Role::LongPoll => None,
+        }
+    }
+
+    /// Whether the request's body is loaded into memory before the first attempt.
+    pub fn loads_body(&self) -> bool
+        ensures { result ≡ loads_body self.now.context.view.settings }
+    {
+        loads_body(&self.context.view.settings)
+    }
+
+    /// The question of this kind, with the parts that stand.
+    pub fn question(&self, kind: Kind) -> Result<Question, OutOfMemory>
+        ensures { IfOk result (λ q. q ≡ asks kind self.now) }
+    {
+        let view = &self.context.view;
+        match kind {
+            Kind::Configure(stage) => Ok(Question::Configure {
+                stage,
+                settings: view.settings.clone()?,
+            }),
+            Kind::Hook(hook) => Ok(Question::Hook {
+                hook,
+                view: view.clone()?,
+            }),
+            Kind::Serialize => Ok(Question::Serialize {
+                input: copy_payload(&view.input)?,
+                settings: view.settings.clone()?,
+            }),
+            Kind::Load => Ok(Question::Load {
+                request: copy_request(&view.request)?,
+            }),
+            Kind::Start(role) => Ok(Question::Start {
+                role,
+                nanos: self.nanos_for(role),
+            }),
+            Kind::Wait(role) => Ok(Question::Wait { role }),
+            Kind::Abandon(abandoned) => Ok(Question::Abandon { abandoned }),
+            Kind::Park => Ok(Question::Park),
+            Kind::Endpoint | Kind::Apply | Kind::Sign | Kind::Transmit => self.request_question(
+                kind,
+            ),
+            _ => self.settled_question(kind),
+        }
+    }
+
+    // A question on the way of the request.
+    fn request_question(&self, kind: Kind) -> Result<Question, OutOfMemory>
+        requires { on_request_way kind ≡ true }
+        ensures { IfOk result (λ q. q ≡ asks kind self.now) }
+    {
+        let view = &self.context.view;
+        let settings = view.settings.clone()?;
+        match kind {
+            Kind::Endpoint => Ok(Question::Endpoint {
+                settings,
+                identity: copy_identity(&self.identity)?,
+            }),
+            Kind::Apply => Ok(Question::Apply {
+                settings,
+                request: copy_request(&view.request)?,
+                endpoint: copy_endpoint(&self.endpoint)?,
+            }),
+            Kind::Sign => Ok(Question::Sign {
+                settings,
+                request: copy_request(&view.request)?,
+                scheme: copy_text(&self.scheme)?,
+                identity: copy_identity(&self.identity)?,
+                endpoint: copy_endpoint(&self.endpoint)?,
+            }),
+            _ => Ok(Question::Transmit {
+                settings,
+                request: copy_request(&view.request)?,
+            }),
+        }
+    }
+
+    // A question that hands on the settings and what came of the request.
+    fn settled_question(&self, kind: Kind) -> Result<Question, OutOfMemory>
+        requires { on_settled_way kind ≡ true }
+        ensures { IfOk result (λ q. q ≡ asks kind self.now) }
+    {
+        let view = &self.context.view;
+        let settings = view.settings.clone()?;
+        match kind {
+            Kind::Initial => Ok(Question::Initial { settings }),
+            Kind::Choose => Ok(Question::Choose { settings }),
+            Kind::Stream => Ok(Question::Stream {
+                settings,
+                response: copy_response(&view.response)?,
+            }),
+            Kind::Body => Ok(Question::Body {
+                settings,
+                response: copy_response(&view.response)?,
+            }),
+            Kind::Deserialize => Ok(Question::Deserialize {
+                settings,
+                response: copy_response(&view.response)?,
+            }),
+            _ => Ok(Question::Decide {
+                settings,
+                request: copy_request(&view.request)?,
+                response: copy_response(&view.response)?,
+                outcome: copy_outcome(&view.outcome)?,
+                attempt: view.attempt,
+            }),
+        }
+    }
+}
+
+/// The standing timeouts, where they are set.
+pub fn timeouts(settings: &Settings) -> Option<TimeoutConfig>
+    ensures { result ≡ timeouts settings.now }
+{
+    match settings.load(&SettingKey::Timeouts) {
+        Some(Setting::Timeouts(timeouts)) => Some(*timeouts),
+        _ => None,
+    }
+}
+
+fn loads_body(settings: &Settings) -> bool
+    ensures { result ≡ loads_body settings.now }
+{
+    match settings.load(&SettingKey::LoadBody) {
+        Some(Setting::LoadBody(loads)) => *loads,
+        _ => false,
+    }
+}
+
+fn copy_identity(identity: &Option<Identity>) -> Result<Option<Identity>, AllocError>
+    ensures { IfOk result (λ copy. copy ≡ identity.now) }
+{
+    match identity {
+        Some(identity) => Ok(Some(identity.clone()?)),
+        None => Ok(None),
+    }
+}
+
+pub(crate) fn copy_endpoint(
+    endpoint: &Option<Shared<Endpoint>>,
+) -> Result<Option<Shared<Endpoint>>, AllocError>
+    ensures { IfOk result (λ copy. copy ≡ endpoint.now) }
+{
+    match endpoint {
+        Some(endpoint) => Ok(Some(endpoint.clone()?)),
+        None => Ok(None),
+    }
+}
+
+pub(crate) fn copy_text(text: &Option<Text>) -> Result<Option<Text>, AllocError>
+    ensures { IfOk result (λ copy. copy ≡ text.now) }
+{
+    match text {
+        Some(text) => Ok(Some(text.clone()?)),
+        None => Ok(None),
+    }
+}
