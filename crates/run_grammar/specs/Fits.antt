@@ -118,3 +118,13 @@ fits kinds.Deserialize answer = fits_deserialize answer
 fits kinds.Decide answer = fits_decide answer
 fits (kinds.Abandon a) answer = fits_abandon answer
 fits kinds.Park answer = fits_park answer
+
+-- the kinds behind Transmit
+abbrev pub is_late : Kind → Bool
+is_late kinds.Stream = true
+is_late kinds.Body = true
+is_late kinds.Deserialize = true
+is_late kinds.Decide = true
+is_late (kinds.Abandon a) = true
+is_late kinds.Park = true
+is_late _ = false

@@ -4,6 +4,7 @@
 
 pub mod answer;
 mod apply;
+mod fits;
 pub mod kind;
 pub mod laws;
 pub mod question;
