@@ -5,7 +5,7 @@ ghost use Rattle.run_grammar.specs.Standing.{starting, asks, on_request_way, on_
 
 use crate::Question;
 use crate::kind::{Kind, Role};
-use smithy_base::intercept::{copy_outcome, copy_payload, copy_request, copy_response};
+use smithy_base::intercept::{copy_outcome, copy_request, copy_response};
 use smithy_base::{
     Endpoint, Identity, InterceptorContext, OutOfMemory, Payload, Setting, SettingKey, Settings,
     Shared, Text, TimeoutConfig,
@@ -179,6 +179,15 @@ fn loads_body(settings: &Settings) -> bool
     match settings.load(&SettingKey::LoadBody) {
         Some(Setting::LoadBody(loads)) => *loads,
         _ => false,
+    }
+}
+
+fn copy_payload(payload: &Option<Payload>) -> Result<Option<Payload>, AllocError>
+    ensures { IfOk result (λ copy. copy ≡ payload.now) }
+{
+    match payload {
+        Some(payload) => Ok(Some(payload.clone()?)),
+        None => Ok(None),
     }
 }
 

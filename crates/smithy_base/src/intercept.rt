@@ -31,8 +31,7 @@ impl Clone for HookView {
     }
 }
 
-/// A copy of a payload, where there is one.
-pub fn copy_payload(payload: &Option<Payload>) -> Result<Option<Payload>, AllocError>
+fn copy_payload(payload: &Option<Payload>) -> Result<Option<Payload>, AllocError>
     ensures { IfOk result (λ copy. copy ≡ payload.now) }
 {
     match payload {
