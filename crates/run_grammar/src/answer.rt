@@ -40,7 +40,6 @@ impl Clone for Chosen {
 }
 
 /// An answer. Which ones fit a question is said by its kind.
-#[derive(Drop)]
 pub enum Answer {
     /// Not yet: the question is asked again.
     Pending,
@@ -76,6 +75,37 @@ pub enum Answer {
     Parked,
     /// The world had no memory for its answer. It stands in a log alone, and fits no question.
     NoMemory,
+}
+
+// Written out, so that a drop is one call wherever an answer is dropped.
+impl Drop for Answer {
+    fn drop(self) {
+        match self {
+            Answer::Failed(_) => {}
+            Answer::ConnectorFailed(_, _) => {}
+            Answer::Layer(_) => {}
+            Answer::Hooked(_) => {}
+            Answer::Request(_) => {}
+            Answer::Loaded(_) => {}
+            Answer::Delay(_) => {}
+            Answer::Chosen(_) => {}
+            Answer::Endpoint(_) => {}
+            Answer::Response(_) => {}
+            Answer::Outcome(_) => {}
+            Answer::Read(_) => {}
+            Answer::Decided(_, _) => {}
+            Answer::Pending => {}
+            Answer::Absent => {}
+            Answer::Go => {}
+            Answer::No => {}
+            Answer::Started => {}
+            Answer::Ready => {}
+            Answer::NotStreaming => {}
+            Answer::Abandoned => {}
+            Answer::Parked => {}
+            Answer::NoMemory => {}
+        }
+    }
 }
 
 impl Clone for Answer {

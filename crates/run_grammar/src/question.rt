@@ -9,7 +9,6 @@ use smithy_base::{
 };
 
 /// A question with the parts of the run that it hands on. A part that doesn't stand is None.
-#[derive(Drop)]
 pub enum Question {
     Configure {
         stage: ConfigureStage,
@@ -84,6 +83,69 @@ pub enum Question {
         abandoned: Abandonable,
     },
     Park,
+}
+
+// Written out, so that a drop is one call wherever a question is dropped.
+impl Drop for Question {
+    fn drop(self) {
+        match self {
+            Question::Configure {
+                stage: _,
+                settings: _,
+            } => {}
+            Question::Hook { hook: _, view: _ } => {}
+            Question::Serialize {
+                input: _,
+                settings: _,
+            } => {}
+            Question::Load { request: _ } => {}
+            Question::Initial { settings: _ } => {}
+            Question::Start { role: _, nanos: _ } => {}
+            Question::Wait { role: _ } => {}
+            Question::Choose { settings: _ } => {}
+            Question::Endpoint {
+                settings: _,
+                identity: _,
+            } => {}
+            Question::Apply {
+                settings: _,
+                request: _,
+                endpoint: _,
+            } => {}
+            Question::Sign {
+                settings: _,
+                request: _,
+                scheme: _,
+                identity: _,
+                endpoint: _,
+            } => {}
+            Question::Transmit {
+                settings: _,
+                request: _,
+            } => {}
+            Question::Stream {
+                settings: _,
+                response: _,
+            } => {}
+            Question::Body {
+                settings: _,
+                response: _,
+            } => {}
+            Question::Deserialize {
+                settings: _,
+                response: _,
+            } => {}
+            Question::Decide {
+                settings: _,
+                request: _,
+                response: _,
+                outcome: _,
+                attempt: _,
+            } => {}
+            Question::Abandon { abandoned: _ } => {}
+            Question::Park => {}
+        }
+    }
 }
 
 impl Question {
