@@ -1,0 +1,20 @@
+//! The retry quota: token buckets that retries are paid from, and the registry that keeps them.
+#![tactic(auto)]
+
+pub mod builder;
+pub mod error;
+pub mod limiter;
+pub mod permit;
+pub mod quota;
+pub mod token_bucket;
+
+pub use builder::TokenBucketBuilder;
+pub use error::QuotaError;
+pub use limiter::{Limiter, OpenLimiter, RequestReason};
+pub use permit::Permit;
+pub use quota::Quota;
+pub use smithy_base::Sums;
+pub use token_bucket::TokenBucket;
+
+/// The most tokens that a bucket may have, as its capacity or initial quota.
+pub const MAXIMUM_CAPACITY: u64 = 500_000_000;
