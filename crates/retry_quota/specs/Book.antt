@@ -19,6 +19,21 @@ pub record Book : Type 0 where
   pub fraction : ℕ
   pub last_second : ℕ
 
+-- what no step of a book changes
+pub record Terms : Type 0 where
+  pub capacity : ℕ
+  pub retry_cost : ℕ
+  pub throttling_cost : ℕ
+  pub transient_cost : ℕ
+  pub reward : ℕ
+  pub rate : ℕ
+
+abbrev pub terms_of : Book → Terms
+terms_of b = record {
+  capacity = b.capacity; retry_cost = b.retry_cost; throttling_cost = b.throttling_cost;
+  transient_cost = b.transient_cost; reward = b.reward; rate = b.rate
+}
+
 -- nothing is lost and nothing is made: each token that was ever there is available, held or forgotten
 abbrev pub IsBalanced : Book → Type 0
 IsBalanced b = b.available + b.held + b.forgotten ≡ b.capacity + b.granted

@@ -3,6 +3,7 @@
 
 pub mod builder;
 pub mod error;
+pub mod laws;
 pub mod limiter;
 pub mod permit;
 pub mod quota;
