@@ -27,12 +27,6 @@ pub record AreTheBuckets {L : Type 0} (m : Meaning L) (books : List Book) : Type
   pub costs : (bucket : ℕ) → IfSome (slice_get books bucket) (λ b. (kind : ErrorKind) → m.cost bucket kind ≡ cost_of kind b)
   pub rewards : (bucket : ℕ) → IfSome (slice_get books bucket) (λ b. m.reward bucket ≡ b.reward)
 
--- what a meaning always keeps
-pub record IsSensible {L : Type 0} (m : Meaning L) : Type 0 where
-  pub books : IfSome m.books (AreTheBuckets m)
-  pub named_buckets : (name : List ℕ) → IfSome (m.bucket_of name) (λ bucket. IsTrue (m.has bucket))
-  pub named_limiters : (name : List ℕ) → IfSome (m.limiter_of name) (λ limiter. IsTrue (nat_lt limiter (length m.limiters)))
-
 -- the buckets, what they cost and which names they have are as before
 pub record KeepsBuckets {L : Type 0} (m n : Meaning L) : Type 0 where
   pub has : (bucket : ℕ) → n.has bucket ≡ m.has bucket

@@ -1,10 +1,9 @@
 -- What the registry keeps.
-use Rattle.std.specs.Prelude.{◌≡◌, ℕ, Bool, nat_lt, nat_eq, List, [], ◌∷◌, Option, None, Some, slice_get, length, option_map}
+use Rattle.std.specs.Prelude.{◌≡◌, refl, ℕ, nat_lt, List, Option, None, Some, IfSome, slice_get, length}
 use Rattle.std.specs.Option.{option_map_or}
-use Rattle.std.specs.Cmp.Lexicographic.{pointwise}
 use Rattle.retry_quota.specs.Book.{Book, cost_of}
-use Rattle.retry_quota.specs.Meaning.{Meaning}
-use Rattle.retry_quota.specs.Place.{change_at}
+use Rattle.retry_quota.specs.Meaning.{Meaning, AreTheBuckets}
+use Rattle.smithy_base.specs.declared.kinds.ErrorKind.{ErrorKind}
 
 -- buckets and limiters stand at their numbers
 pub record Registers (L : Type 0) : Type 0 where
@@ -22,3 +21,18 @@ meaning_of r = record {
   bucket_of = λ name. None;
   limiter_of = λ name. None
 }
+
+-- the books that the registry tells are its buckets
+pub told_books : {L : Type 0} → (r : Registers L) → AreTheBuckets (meaning_of r) r.books
+told_books r = record {
+  there = λ bucket. refl;
+  costs = λ bucket. costs (slice_get r.books bucket);
+  rewards = λ bucket. rewards (slice_get r.books bucket)
+}
+  where
+    costs : (o : Option Book) → IfSome o (λ b. (kind : ErrorKind) → option_map_or (cost_of kind) o 0 ≡ cost_of kind b)
+    costs None = tt
+    costs (Some b) = λ kind. refl
+    rewards : (o : Option Book) → IfSome o (λ b. option_map_or (λ c. c.reward) o 0 ≡ b.reward)
+    rewards None = tt
+    rewards (Some b) = refl

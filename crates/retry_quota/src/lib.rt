@@ -7,6 +7,7 @@ pub mod laws;
 pub mod limiter;
 pub mod permit;
 pub mod quota;
+pub mod registry;
 pub mod token_bucket;
 
 pub use builder::TokenBucketBuilder;
@@ -14,6 +15,7 @@ pub use error::QuotaError;
 pub use limiter::{Limiter, OpenLimiter, RequestReason};
 pub use permit::Permit;
 pub use quota::Quota;
+pub use registry::Registry;
 pub use smithy_base::Sums;
 pub use token_bucket::TokenBucket;
 

@@ -8,7 +8,7 @@ use smithy_base::ErrorKind;
 
 /// Buckets and limiters by their numbers, from which retries are paid.
 pub trait Quota {
-    ghost use Rattle.retry_quota.specs.Meaning.{Meaning, Steps, Settles, ChangesLimiter, IsSensible, book_at};
+    ghost use Rattle.retry_quota.specs.Meaning.{Meaning, Steps, Settles, ChangesLimiter, AreTheBuckets, book_at};
 
     /// What an acquire gives. It is spent by a release or a forget.
     type Permit: Drop;
@@ -78,6 +78,6 @@ pub trait Quota {
     fn limiter_update(&mut self, limiter: u32, now: u64, throttled: bool)
         ensures { ChangesLimiter (meaning self.old) limiter (λ l. Self.Limiter.after_update l now throttled) (meaning self.new) };
 
-    /// What holds of every quota.
-    ghost sensible: { (q : Self) → IsSensible (meaning q) };
+    /// The books that are told are those of the buckets.
+    ghost told: { (q : Self) → IfSome (meaning q).books (AreTheBuckets (meaning q)) };
 }

@@ -1,11 +1,11 @@
 ghost use Rattle.std.specs.Prelude.{
-    ◌≡◌, ◌+◌, ◌*◌, ◌≤◌, ◌<◌, ◌↔◌, IsTrue, IsSome, IfSome, IsOk, IfOk, IsErr, min,
+    ◌≡◌, ◌+◌, ◌*◌, ◌≤◌, ◌<◌, ◌↔◌, IsTrue, IsSome, IfSome, IsOk, IfOk, IsErr, min, option_map,
 };
 ghost use Rattle.retry_quota.specs.Book.{
     Book, add, convert, cost_of, credit, forget, is_empty, is_full, plain_book, opening, raised,
     ready, refill, release, sums_of, IsBalanced,
 };
-ghost use Rattle.retry_quota.specs.History.{after, acquire};
+ghost use Rattle.retry_quota.specs.History.{after, acquire_reply, reply_to};
 ghost use Rattle.retry_quota.specs.History.{Acquire, Release, Forget, Reward, Regenerate, Convert};
 
 use crate::{MAXIMUM_CAPACITY, Permit, QuotaError, Sums};
@@ -105,6 +105,7 @@ impl TokenBucket {
     /// refill counts, and whole tokens leave the fraction. The permit's bucket is 0.
     pub fn acquire(&mut self, kind: ErrorKind, now_secs: u64) -> Option<Permit>
         ensures book { self.new ≡ after (Acquire kind now_secs) self.old }
+        ensures reply { acquire_reply (option_map (λ p. p.amount) result) ≡ reply_to (Acquire kind now_secs) self.old }
         ensures granted { IsSome result ↔ (cost_of kind self.old ≤ (ready now_secs self.old).available) }
         ensures permit { IfSome result (λ p. p ≡ record { bucket = 0; amount = cost_of kind self.old }) }
     {

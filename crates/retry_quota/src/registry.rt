@@ -1,0 +1,164 @@
+ghost use Rattle.std.specs.Prelude.{◌≡◌, ◌++◌, ◌∷◌, [], length, IfOk, OnErr};
+
+use crate::{Limiter, Permit, Quota, RequestReason, Sums, TokenBucket};
+use smithy_base::{ErrorKind, OutOfMemory};
+use std::alloc::Global;
+use std::marker::Model;
+
+/// The buckets and the limiters of one thread, by their numbers.
+#[derive(Drop)]
+pub struct Registry<L: Limiter> {
+    buckets: Vec<TokenBucket>,
+    limiters: Vec<L>,
+}
+
+impl<L: Limiter> Model for Registry<L> {
+    ghost use Rattle.retry_quota.specs.Registers.{Registers};
+
+    ghost Value = { Registers L };
+
+    ghost view = { λ r. record { books = r.buckets.items; limiters = r.limiters.items } };
+}
+
+impl<L: Limiter> Registry<L> {
+    /// The registry without buckets and limiters.
+    pub fn new(alloc: Global) -> Registry<L>
+        ensures no_buckets { result.books ≡ [] }
+        ensures no_limiters { result.limiters ≡ [] }
+    {
+        Registry {
+            buckets: Vec::new(alloc),
+            limiters: Vec::new(alloc),
+        }
+    }
+
+    /// Adds a bucket, and answers its number. Where there is no memory or no number left, the bucket
+    /// is dropped.
+    pub fn add_bucket(&mut self, alloc: Global, bucket: TokenBucket) -> Result<u32, OutOfMemory>
+        ensures number { IfOk result (λ number. number ≡ length self.old.books) }
+        ensures ok { IfOk result (λ _. self.new ≡ record self.old { books = self.old.books ++ bucket ∷ [] }) }
+        ensures err { OnErr result (self.new ≡ self.old) }
+    {
+        let _ = alloc;
+        let number = next_number(self.buckets.len())?;
+        self.buckets.push(bucket)?;
+        Ok(number)
+    }
+
+    /// Adds a limiter, and answers its number. Where there is no memory or no number left, the
+    /// limiter is dropped.
+    pub fn add_limiter(&mut self, alloc: Global, limiter: L) -> Result<u32, OutOfMemory>
+        ensures number { IfOk result (λ number. number ≡ length self.old.limiters) }
+        ensures ok { IfOk result (λ _. self.new ≡ record self.old { limiters = self.old.limiters ++ limiter ∷ [] }) }
+        ensures err { OnErr result (self.new ≡ self.old) }
+    {
+        let _ = alloc;
+        let number = next_number(self.limiters.len())?;
+        self.limiters.push(limiter)?;
+        Ok(number)
+    }
+}
+
+impl<L: Limiter> Registry<L> {
+    ghost use Rattle.std.specs.Prelude.{false, nat_le, slice_get};
+    ghost use Rattle.std.specs.Option.{option_map_or};
+
+    // Whether the permit's bucket is there and holds as much.
+    fn holds(&self, permit: &Permit) -> bool
+        ensures { result ≡ option_map_or (λ b. nat_le permit.now.amount b.held) (slice_get self.now.books permit.now.bucket) false }
+    {
+        match self.buckets.get(permit.bucket as usize) {
+            Some(book) => permit.amount as u64 <= book.sums().held,
+            None => false,
+        }
+    }
+}
+
+// The number of what is added behind so many.
+fn next_number(len: usize) -> Result<u32, OutOfMemory>
+    ensures { IfOk result (λ number. number ≡ len) }
+{
+    u32::try_from(len).map_err(|_| OutOfMemory)
+}
+
+impl<L: Limiter> Quota for Registry<L> {
+    ghost use Rattle.retry_quota.specs.Registers.{meaning_of, told_books};
+
+    type Permit = Permit;
+
+    type Limiter = L;
+
+    ghost meaning = { meaning_of };
+
+    ghost permit_bucket = { λ p. p.bucket };
+
+    ghost permit_amount = { λ p. p.amount };
+
+    fn has(&self, bucket: u32) -> bool {
+        (bucket as usize) < self.buckets.len()
+    }
+
+    fn acquire(&mut self, bucket: u32, kind: ErrorKind, now_secs: u64) -> Option<Permit> {
+        let book = &mut self.buckets[bucket as usize];
+        let Some(permit) = book.acquire(kind, now_secs) else {
+            return None;
+        };
+        Some(Permit {
+            bucket,
+            amount: permit.amount,
+        })
+    }
+
+    fn release(&mut self, permit: Permit) {
+        if self.holds(&permit) {
+            let book = &mut self.buckets[permit.bucket as usize];
+            book.release(permit);
+        }
+    }
+
+    fn forget(&mut self, permit: Permit) {
+        if self.holds(&permit) {
+            let book = &mut self.buckets[permit.bucket as usize];
+            book.forget(permit);
+        }
+    }
+
+    fn reward_success(&mut self, bucket: u32) {
+        let book = &mut self.buckets[bucket as usize];
+        book.reward_success();
+    }
+
+    fn regenerate_a_token(&mut self, bucket: u32) {
+        let book = &mut self.buckets[bucket as usize];
+        book.regenerate_a_token();
+    }
+
+    fn success_reward(&self, bucket: u32) -> u64 {
+        self.buckets[bucket as usize].success_reward()
+    }
+
+    fn cost(&self, bucket: u32, kind: ErrorKind) -> u32 {
+        self.buckets[bucket as usize].cost(kind)
+    }
+
+    fn sums(&self, bucket: u32) -> Option<Sums> {
+        Some(self.buckets[bucket as usize].sums())
+    }
+
+    fn limiter_acquire(&mut self, limiter: u32, now: u64, reason: RequestReason) -> Result<(), u64> {
+        if limiter as usize >= self.limiters.len() {
+            return Ok(());
+        }
+        let limiter = &mut self.limiters[limiter as usize];
+        limiter.acquire(now, reason)
+    }
+
+    fn limiter_update(&mut self, limiter: u32, now: u64, throttled: bool) {
+        if (limiter as usize) < self.limiters.len() {
+            let limiter = &mut self.limiters[limiter as usize];
+            limiter.update(now, throttled);
+        }
+    }
+
+    ghost told = { told_books };
+}
