@@ -32,7 +32,7 @@ terms-ready second b = terms-convert (refill second b) ∙ terms-refill second b
 -- no step changes the terms
 pub terms-after : (step : Step) (b : Book) → terms_of (after step b) ≡ terms_of b
 terms-after (Acquire kind second) b =
-  same_if terms_of (is_granted kind second b) (spend (cost_of kind b) (ready second b)) (ready second b) (terms_of b)
+    same_if terms_of (is_granted kind second b) (spend (cost_of kind b) (ready second b)) (ready second b) (terms_of b)
     (terms-ready second b) (terms-ready second b)
 terms-after (Release amount) b = same_if terms_of _ _ _ (terms_of b) refl refl
 terms-after (Forget amount) b = same_if terms_of _ _ _ (terms_of b) refl refl
@@ -60,8 +60,8 @@ balanced-refill second b balanced = holds_if IsBalanced _ _ _ (λ _. balanced) b
 
 balanced-add : (tokens : ℕ) (b : Book) → IsBalanced b → IsBalanced (add tokens b)
 balanced-add tokens b balanced =
-  let more = fitting tokens b in
-  holds_if IsBalanced (nat_lt (b.capacity + (b.granted + more)) (2 ^ 64))
+    let more = fitting tokens b in
+    holds_if IsBalanced (nat_lt (b.capacity + (b.granted + more)) (2 ^ 64))
     (record b { available = b.available + more; granted = b.granted + more }) b
     (λ _. omega arith) balanced
 
@@ -74,15 +74,15 @@ balanced-spend cost b enough balanced = omega arith
 -- every step keeps the balance
 pub balanced-after : (step : Step) (b : Book) → IsBalanced b → IsBalanced (after step b)
 balanced-after (Acquire kind second) b balanced =
-  let found : IsBalanced (ready second b) = balanced-convert (refill second b) (balanced-refill second b balanced) in
-  holds_if IsBalanced (is_granted kind second b) (spend (cost_of kind b) (ready second b)) (ready second b)
+    let found : IsBalanced (ready second b) = balanced-convert (refill second b) (balanced-refill second b balanced) in
+    holds_if IsBalanced (is_granted kind second b) (spend (cost_of kind b) (ready second b)) (ready second b)
     (λ granted. balanced-spend (cost_of kind b) (ready second b) (leb-true (cost_of kind b) (ready second b).available granted) found)
     found
 balanced-after (Release amount) b balanced =
-  holds_if IsBalanced (nat_le amount b.held) (record b { held = b.held - amount; available = b.available + amount }) b
+    holds_if IsBalanced (nat_le amount b.held) (record b { held = b.held - amount; available = b.available + amount }) b
     (λ there. let enough : amount ≤ b.held = leb-true amount b.held there in omega arith) balanced
 balanced-after (Forget amount) b balanced =
-  holds_if IsBalanced (nat_le amount b.held) (record b { held = b.held - amount; forgotten = b.forgotten + amount }) b
+    holds_if IsBalanced (nat_le amount b.held) (record b { held = b.held - amount; forgotten = b.forgotten + amount }) b
     (λ there. let enough : amount ≤ b.held = leb-true amount b.held there in omega arith) balanced
 balanced-after Reward b balanced = balanced
 balanced-after Regenerate b balanced = balanced-add 1 b balanced
@@ -104,5 +104,5 @@ legal-joined (e ∷ es) ys b first second = (first.0, legal-joined es ys (after 
 pub legal-begun : (xs ys : List Entry) (b : Book) → IsLegal b (xs ++ ys) → IsLegal b xs × IsLegal (end_of b xs) ys
 legal-begun [] ys b both = (tt, both)
 legal-begun (e ∷ es) ys b both =
-  let rest = legal-begun es ys (after e.step b) both.1 in
-  ((both.0, rest.0), rest.1)
+    let rest = legal-begun es ys (after e.step b) both.1 in
+    ((both.0, rest.0), rest.1)

@@ -22,53 +22,55 @@ if_any None all = tt
 if_any (Some x) all = all x
 
 costs_stay : {L : Type 0} → (r : Registers L) (bucket : ℕ) (step : Step)
-  → KeepsBuckets (meaning_of r) (meaning_of (record r { books = change_at bucket (after step) r.books }))
+    → KeepsBuckets (meaning_of r) (meaning_of (record r { books = change_at bucket (after step) r.books }))
 costs_stay r bucket step = record {
   has = λ j. ap (λ n. nat_lt j n) (length-change_at (after step) r.books bucket);
   cost = λ j kind. map_or-change_at (cost_of kind) (after step) (cost-after kind step) r.books bucket j 0;
   reward = λ j. map_or-change_at (λ b. b.reward) (after step) (λ b. ap (λ t. t.reward) (terms-after step b)) r.books bucket j 0;
   bucket_of = λ name. refl;
-  limiter_of = λ name. refl
+  limiter_of = λ name. refl;
 }
 
 step_changed : {L : Type 0} → (r : Registers L) (bucket : ℕ) (step : Step) (reply : Reply)
-  → IfSome (slice_get r.books bucket) (λ b. reply ≡ reply_to step b)
-  → Steps (meaning_of r) bucket step reply (meaning_of (record r { books = change_at bucket (after step) r.books }))
+    → IfSome (slice_get r.books bucket) (λ b. reply ≡ reply_to step b)
+    → Steps (meaning_of r) bucket step reply (meaning_of (record r { books = change_at bucket (after step) r.books }))
 step_changed r bucket step reply replied = record {
   book = (replied, refl);
   entries = refl;
   buckets = costs_stay r bucket step;
-  limiters = refl
+  limiters = refl;
 }
 
 -- a bucket that was read and written back has made its step
 pub step_written : {L : Type 0} → (r s : Registers L) (bucket : ℕ) (step : Step) (reply : Reply) (old new : Book)
-  → r ≡ s → IsTrue ((meaning_of s).has bucket) → old ≡ slice_index_or r.books bucket old
-  → new ≡ after step old → reply ≡ reply_to step old
-  → Steps (meaning_of s) bucket step reply (meaning_of (record r { books = slice_set r.books bucket new }))
+    → r ≡ s → IsTrue ((meaning_of s).has bucket) → old ≡ slice_index_or r.books bucket old
+    → new ≡ after step old → reply ≡ reply_to step old
+    → Steps (meaning_of s) bucket step reply (meaning_of (record r { books = slice_set r.books bucket new }))
 step_written {L} r s bucket step reply old new same there read made replied =
-  let within : bucket < length r.books = leb-true (suc bucket) (length r.books) (subst (λ t. IsTrue ((meaning_of t).has bucket)) (sym same) there) in
-  let changed : slice_set r.books bucket new ≡ change_at bucket (after step) r.books = set-changed (after step) r.books bucket old new within read made in
-  let stepped : Steps (meaning_of r) bucket step reply (meaning_of (record r { books = change_at bucket (after step) r.books })) =
+    let within : bucket < length r.books = leb-true (suc bucket) (length r.books) (subst (λ t. IsTrue ((meaning_of t).has bucket)) (sym same) there) in
+    let changed : slice_set r.books bucket new ≡ change_at bucket (after step) r.books = set-changed (after step) r.books bucket old new within read made in
+    let stepped : Steps (meaning_of r) bucket step reply (meaning_of (record r { books = change_at bucket (after step) r.books })) =
     step_changed r bucket step reply (if_some (λ b. reply ≡ reply_to step b) (slice_get r.books bucket) old (slice_get_read r.books (length r.books) bucket old refl within read) replied) in
-  let written : Steps (meaning_of r) bucket step reply (meaning_of (record r { books = slice_set r.books bucket new })) =
+    let written : Steps (meaning_of r) bucket step reply (meaning_of (record r { books = slice_set r.books bucket new })) =
     subst (λ (books : List Book). Steps (meaning_of r) bucket step reply (meaning_of (record r { books = books }))) (sym changed) stepped in
-  subst (λ (t : Registers L). Steps (meaning_of t) bucket step reply (meaning_of (record r { books = slice_set r.books bucket new }))) same written
+    subst (λ (t : Registers L). Steps (meaning_of t) bucket step reply (meaning_of (record r { books = slice_set r.books bucket new }))) same written
 
 kept : {L : Type 0} → (r : Registers L) → IsKept (meaning_of r) (meaning_of r)
 kept r = record {
   buckets = record { has = λ j. refl; cost = λ j kind. refl; reward = λ j. refl; bucket_of = λ name. refl; limiter_of = λ name. refl };
-  books = refl; entries = refl; limiters = refl
+  books = refl;
+  entries = refl;
+  limiters = refl;
 }
 
 -- a step that changes none of the books
 step_refused : {L : Type 0} → (r : Registers L) (bucket : ℕ) (step : Step)
-  → ((b : Book) → reply_to step b ≡ Done) → change_at bucket (after step) r.books ≡ r.books
-  → Settles (meaning_of r) bucket step (meaning_of r)
+    → ((b : Book) → reply_to step b ≡ Done) → change_at bucket (after step) r.books ≡ r.books
+    → Settles (meaning_of r) bucket step (meaning_of r)
 step_refused {L} r bucket step done unchanged = record {
   there = λ there. subst (λ (books : List Book). Steps (meaning_of r) bucket step Done (meaning_of (record r { books = books }))) unchanged
-    (step_changed r bucket step Done (if_any (slice_get r.books bucket) (λ b. sym (done b))));
-  foreign = λ gone. kept r
+      (step_changed r bucket step Done (if_any (slice_get r.books bucket) (λ b. sym (done b))));
+  foreign = λ gone. kept r;
 }
 
 released_less : (amount : ℕ) (b : Book) → nat_le amount b.held ≡ false → release amount b ≡ b
@@ -79,66 +81,69 @@ forgotten_less amount b less = ap (λ t. if t then record b { held = b.held - am
 
 -- a release of more than is held changes nothing
 pub release_foreign : {L : Type 0} → (r : Registers L) (bucket amount : ℕ)
-  → option_map_or (λ b. nat_le amount b.held) (slice_get r.books bucket) false ≡ false
-  → Settles (meaning_of r) bucket (Release amount) (meaning_of r)
+    → option_map_or (λ b. nat_le amount b.held) (slice_get r.books bucket) false ≡ false
+    → Settles (meaning_of r) bucket (Release amount) (meaning_of r)
 release_foreign r bucket amount less = step_refused r bucket (Release amount) (λ b. refl)
-  (change_at-refused (λ b. nat_le amount b.held) (release amount) (released_less amount) r.books bucket less)
+    (change_at-refused (λ b. nat_le amount b.held) (release amount) (released_less amount) r.books bucket less)
 
 -- a forget of more than is held changes nothing
 pub forget_foreign : {L : Type 0} → (r : Registers L) (bucket amount : ℕ)
-  → option_map_or (λ b. nat_le amount b.held) (slice_get r.books bucket) false ≡ false
-  → Settles (meaning_of r) bucket (Forget amount) (meaning_of r)
+    → option_map_or (λ b. nat_le amount b.held) (slice_get r.books bucket) false ≡ false
+    → Settles (meaning_of r) bucket (Forget amount) (meaning_of r)
 forget_foreign r bucket amount less = step_refused r bucket (Forget amount) (λ b. refl)
-  (change_at-refused (λ b. nat_le amount b.held) (forget amount) (forgotten_less amount) r.books bucket less)
+    (change_at-refused (λ b. nat_le amount b.held) (forget amount) (forgotten_less amount) r.books bucket less)
 
 -- a bucket that is there has settled by its step
 pub settled : {L : Type 0} → (m n : Meaning L) (bucket : ℕ) (step : Step)
-  → IsTrue (m.has bucket) → Steps m bucket step Done n → Settles m bucket step n
+    → IsTrue (m.has bucket) → Steps m bucket step Done n → Settles m bucket step n
 settled m n bucket step there stepped = record {
   there = λ _. stepped;
-  foreign = λ gone. cc
+  foreign = λ gone. cc;
 }
 
 -- a limiter that was read and written back has changed
 pub limiter_written : {L : Type 0} → (r s : Registers L) (limiter : ℕ) (change : L → L) (old new : L)
-  → r ≡ s → limiter < length r.limiters → old ≡ slice_index_or r.limiters limiter old → new ≡ change old
-  → ChangesLimiter (meaning_of s) limiter change (meaning_of (record r { limiters = slice_set r.limiters limiter new }))
+    → r ≡ s → limiter < length r.limiters → old ≡ slice_index_or r.limiters limiter old → new ≡ change old
+    → ChangesLimiter (meaning_of s) limiter change (meaning_of (record r { limiters = slice_set r.limiters limiter new }))
 limiter_written {L} r s limiter change old new same within read made =
-  subst (λ (t : Registers L). ChangesLimiter (meaning_of t) limiter change (meaning_of (record r { limiters = slice_set r.limiters limiter new }))) same (record {
-    limiters = set-changed change r.limiters limiter old new within read made;
-    books = refl; entries = refl;
-    buckets = record { has = λ j. refl; cost = λ j kind. refl; reward = λ j. refl; bucket_of = λ name. refl; limiter_of = λ name. refl }
-  })
+    subst (λ (t : Registers L). ChangesLimiter (meaning_of t) limiter change (meaning_of (record r { limiters = slice_set r.limiters limiter new }))) same (record {
+      limiters = set-changed change r.limiters limiter old new within read made;
+      books = refl;
+      entries = refl;
+      buckets = record { has = λ j. refl; cost = λ j kind. refl; reward = λ j. refl; bucket_of = λ name. refl; limiter_of = λ name. refl };
+    })
 
 -- a limiter that isn't there doesn't change
 pub limiter_past : {L : Type 0} → (r s : Registers L) (limiter : ℕ) (change : L → L)
-  → r ≡ s → length r.limiters ≤ limiter → ChangesLimiter (meaning_of s) limiter change (meaning_of s)
+    → r ≡ s → length r.limiters ≤ limiter → ChangesLimiter (meaning_of s) limiter change (meaning_of s)
 limiter_past {L} r s limiter change same past =
-  subst (λ (t : Registers L). ChangesLimiter (meaning_of t) limiter change (meaning_of t)) same (record {
-    limiters = sym (change_at-past change r.limiters limiter past);
-    books = refl; entries = refl; buckets = (kept r).buckets
-  })
+    subst (λ (t : Registers L). ChangesLimiter (meaning_of t) limiter change (meaning_of t)) same (record {
+      limiters = sym (change_at-past change r.limiters limiter past);
+      books = refl;
+      entries = refl;
+      buckets = (kept r).buckets;
+    })
 
 -- what a limiter that was read replies
 pub limiter_reply : {L Y : Type 0} → (r s : Registers L) (limiter : ℕ) (reply : L → Y) (old : L) (d : Y)
-  → r ≡ s → limiter < length r.limiters → old ≡ slice_index_or r.limiters limiter old
-  → reply old ≡ option_map_or reply (slice_get s.limiters limiter) d
+    → r ≡ s → limiter < length r.limiters → old ≡ slice_index_or r.limiters limiter old
+    → reply old ≡ option_map_or reply (slice_get s.limiters limiter) d
 limiter_reply {L} {Y} r s limiter reply old d same within read =
-  subst (λ (t : Registers L). reply old ≡ option_map_or reply (slice_get t.limiters limiter) d) same
+    subst (λ (t : Registers L). reply old ≡ option_map_or reply (slice_get t.limiters limiter) d) same
     (sym (ap (λ o. option_map_or reply o d) (slice_get_read r.limiters (length r.limiters) limiter old refl within read)))
 
 -- a limiter that isn't there has the reply that stands in for it
 pub limiter_reply_past : {L Y : Type 0} → (r s : Registers L) (limiter : ℕ) (reply : L → Y) (d : Y)
-  → r ≡ s → length r.limiters ≤ limiter → d ≡ option_map_or reply (slice_get s.limiters limiter) d
+    → r ≡ s → length r.limiters ≤ limiter → d ≡ option_map_or reply (slice_get s.limiters limiter) d
 limiter_reply_past {L} {Y} r s limiter reply d same past =
-  subst (λ (t : Registers L). d ≡ option_map_or reply (slice_get t.limiters limiter) d) same
+    subst (λ (t : Registers L). d ≡ option_map_or reply (slice_get t.limiters limiter) d) same
     (sym (ap (λ o. option_map_or reply o d) (slice_get-past r.limiters limiter past)))
 
 -- what a bucket that was read has, the meaning has too
 pub read_cost : {L : Type 0} → (r s : Registers L) (bucket : ℕ) (kind : ErrorKind) (old : Book)
-  → r ≡ s → IsTrue ((meaning_of s).has bucket) → old ≡ slice_index_or r.books bucket old
-  → (meaning_of s).cost bucket kind ≡ cost_of kind old
+    → r ≡ s → IsTrue ((meaning_of s).has bucket) → old ≡ slice_index_or r.books bucket old
+    → (meaning_of s).cost bucket kind ≡ cost_of kind old
 read_cost {L} r s bucket kind old same there read =
-  let within : bucket < length r.books = leb-true (suc bucket) (length r.books) (subst (λ t. IsTrue ((meaning_of t).has bucket)) (sym same) there) in
-  subst (λ (t : Registers L). (meaning_of t).cost bucket kind ≡ cost_of kind old) same
+    let within : bucket < length r.books = leb-true (suc bucket) (length r.books) (subst (λ t. IsTrue ((meaning_of t).has bucket)) (sym same) there) in
+    subst (λ (t : Registers L). (meaning_of t).cost bucket kind ≡ cost_of kind old) same
     (ap (λ o. option_map_or (cost_of kind) o 0) (slice_get_read r.books (length r.books) bucket old refl within read))

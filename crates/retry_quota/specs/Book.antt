@@ -30,8 +30,12 @@ pub record Terms : Type 0 where
 
 abbrev pub terms_of : Book → Terms
 terms_of b = record {
-  capacity = b.capacity; retry_cost = b.retry_cost; throttling_cost = b.throttling_cost;
-  transient_cost = b.transient_cost; reward = b.reward; rate = b.rate
+  capacity = b.capacity;
+  retry_cost = b.retry_cost;
+  throttling_cost = b.throttling_cost;
+  transient_cost = b.transient_cost;
+  reward = b.reward;
+  rate = b.rate;
 }
 
 -- nothing is lost and nothing is made: each token that was ever there is available, held or forgotten
@@ -47,9 +51,18 @@ pub record IsSound (b : Book) : Type 0 where
 -- a book that nobody has used yet
 abbrev pub opening : ℕ → ℕ → ℕ → ℕ → ℕ → ℕ → Book
 opening capacity retry_cost throttling_cost transient_cost reward rate = record {
-  capacity = capacity; retry_cost = retry_cost; throttling_cost = throttling_cost;
-  transient_cost = transient_cost; reward = reward; rate = rate;
-  granted = 0; available = capacity; held = 0; forgotten = 0; fraction = 0; last_second = 0
+  capacity = capacity;
+  retry_cost = retry_cost;
+  throttling_cost = throttling_cost;
+  transient_cost = transient_cost;
+  reward = reward;
+  rate = rate;
+  granted = 0;
+  available = capacity;
+  held = 0;
+  forgotten = 0;
+  fraction = 0;
+  last_second = 0;
 }
 
 -- a book of this capacity with the default costs, without a reward and without a refill
@@ -73,9 +86,9 @@ raised more b = if nat_lt b.fraction (fraction_cap b) then min (b.fraction + mor
 -- what the time since the last refill adds; a clock that went back adds nothing
 abbrev pub refill : ℕ → Book → Book
 refill second b =
-  if nat_lt 0 b.rate && not (second == b.last_second)
-  then record b { fraction = raised ((second - b.last_second) * b.rate) b; last_second = second }
-  else b
+    if nat_lt 0 b.rate && not (second == b.last_second)
+    then record b { fraction = raised ((second - b.last_second) * b.rate) b; last_second = second }
+    else b
 
 -- how many of these tokens find room
 abbrev pub fitting : ℕ → Book → ℕ
@@ -84,9 +97,9 @@ fitting tokens b = min tokens (b.capacity - b.available)
 -- new tokens come up to the capacity; where the count of all tokens would pass 64 bits, none does
 abbrev pub add : ℕ → Book → Book
 add tokens b =
-  if nat_lt (b.capacity + (b.granted + fitting tokens b)) (2 ^ 64)
-  then record b { available = b.available + fitting tokens b; granted = b.granted + fitting tokens b }
-  else b
+    if nat_lt (b.capacity + (b.granted + fitting tokens b)) (2 ^ 64)
+    then record b { available = b.available + fitting tokens b; granted = b.granted + fitting tokens b }
+    else b
 
 -- the whole tokens leave the fraction and are added; what doesn't fit is lost
 abbrev pub convert : Book → Book
@@ -102,16 +115,16 @@ spend cost b = record b { available = b.available - cost; held = b.held + cost }
 -- where this much is held, it is available again; nothing changes otherwise
 abbrev pub release : ℕ → Book → Book
 release amount b =
-  if nat_le amount b.held
-  then record b { held = b.held - amount; available = b.available + amount }
-  else b
+    if nat_le amount b.held
+    then record b { held = b.held - amount; available = b.available + amount }
+    else b
 
 -- where this much is held, it is gone for good; nothing changes otherwise
 abbrev pub forget : ℕ → Book → Book
 forget amount b =
-  if nat_le amount b.held
-  then record b { held = b.held - amount; forgotten = b.forgotten + amount }
-  else b
+    if nat_le amount b.held
+    then record b { held = b.held - amount; forgotten = b.forgotten + amount }
+    else b
 
 abbrev pub credit : Book → Book
 credit b = record b { fraction = raised b.reward b }
@@ -124,5 +137,9 @@ is_empty b = b.available == 0
 
 abbrev pub sums_of : Book → Sums
 sums_of b = record {
-  capacity = b.capacity; granted = b.granted; available = b.available; held = b.held; forgotten = b.forgotten
+  capacity = b.capacity;
+  granted = b.granted;
+  available = b.available;
+  held = b.held;
+  forgotten = b.forgotten;
 }

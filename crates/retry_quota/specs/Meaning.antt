@@ -46,7 +46,7 @@ pub record IsKept {L : Type 0} (m n : Meaning L) : Type 0 where
 abbrev pub BookSteps : Option (List Book) → ℕ → Step → Reply → Option (List Book) → Type 0
 BookSteps None bucket step reply new = new ≡ None
 BookSteps (Some books) bucket step reply new =
-  IfSome (slice_get books bucket) (λ b. reply ≡ reply_to step b) × (new ≡ Some (change_at bucket (after step) books))
+    IfSome (slice_get books bucket) (λ b. reply ≡ reply_to step b) × (new ≡ Some (change_at bucket (after step) books))
 
 -- where the steps are told, this one is added
 abbrev pub recorded : Option (List Entry) → Step → Reply → Option (List Entry)

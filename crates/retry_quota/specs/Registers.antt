@@ -19,7 +19,7 @@ meaning_of r = record {
   entries = None;
   limiters = r.limiters;
   bucket_of = λ name. None;
-  limiter_of = λ name. None
+  limiter_of = λ name. None;
 }
 
 -- the books that the registry tells are its buckets
@@ -27,12 +27,13 @@ pub told_books : {L : Type 0} → (r : Registers L) → AreTheBuckets (meaning_o
 told_books r = record {
   there = λ bucket. refl;
   costs = λ bucket. costs (slice_get r.books bucket);
-  rewards = λ bucket. rewards (slice_get r.books bucket)
+  rewards = λ bucket. rewards (slice_get r.books bucket);
 }
   where
     costs : (o : Option Book) → IfSome o (λ b. (kind : ErrorKind) → option_map_or (cost_of kind) o 0 ≡ cost_of kind b)
     costs None = tt
     costs (Some b) = λ kind. refl
+
     rewards : (o : Option Book) → IfSome o (λ b. option_map_or (λ c. c.reward) o 0 ≡ b.reward)
     rewards None = tt
     rewards (Some b) = refl

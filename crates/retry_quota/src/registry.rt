@@ -1,4 +1,7 @@
-ghost use Rattle.std.specs.Prelude.{◌≡◌, ◌++◌, ◌∷◌, [], length, IfOk, OnErr};
+ghost use Rattle.std.specs.Prelude.{◌≡◌, ◌++◌, ◌∷◌, [], length, IfOk, IsOkAnd, OnErr};
+
+#[cfg(test)]
+mod tests;
 
 use crate::{Limiter, Permit, Quota, RequestReason, Sums, TokenBucket};
 use smithy_base::{ErrorKind, OutOfMemory};
@@ -21,15 +24,15 @@ impl<L: Limiter> Model for Registry<L> {
 }
 
 impl<L: Limiter> Registry<L> {
-    /// The registry without buckets and limiters.
-    pub fn new(alloc: Global) -> Registry<L>
-        ensures no_buckets { result.books ≡ [] }
-        ensures no_limiters { result.limiters ≡ [] }
+    /// The registry without buckets and limiters, which takes no memory yet.
+    pub fn new(alloc: Global) -> Result<Registry<L>, OutOfMemory>
+        ensures no_buckets { IsOkAnd result (λ r. r.books ≡ []) }
+        ensures no_limiters { IsOkAnd result (λ r. r.limiters ≡ []) }
     {
-        Registry {
+        Ok(Registry {
             buckets: Vec::new(alloc),
             limiters: Vec::new(alloc),
-        }
+        })
     }
 
     /// Adds a bucket, and answers its number. Where there is no memory or no number left, the bucket
@@ -145,7 +148,12 @@ impl<L: Limiter> Quota for Registry<L> {
         Some(self.buckets[bucket as usize].sums())
     }
 
-    fn limiter_acquire(&mut self, limiter: u32, now: u64, reason: RequestReason) -> Result<(), u64> {
+    fn limiter_acquire(
+        &mut self,
+        limiter: u32,
+        now: u64,
+        reason: RequestReason,
+    ) -> Result<(), u64> {
         if limiter as usize >= self.limiters.len() {
             return Ok(());
         }

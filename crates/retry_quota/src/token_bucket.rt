@@ -1,14 +1,44 @@
 ghost use Rattle.std.specs.Prelude.{
-    ◌≡◌, ◌+◌, ◌*◌, ◌≤◌, ◌<◌, ◌↔◌, IsTrue, IsSome, IfSome, IsOk, IfOk, IsErr, min, option_map,
+  ◌≡◌,
+  ◌+◌,
+  ◌*◌,
+  ◌≤◌,
+  ◌<◌,
+  ◌↔◌,
+  IsTrue,
+  IsSome,
+  IfSome,
+  IsOk,
+  IfOk,
+  IsErr,
+  min,
+  option_map,
 };
 ghost use Rattle.retry_quota.specs.Book.{
-    Book, add, convert, cost_of, credit, forget, is_empty, is_full, plain_book, opening, raised,
-    ready, refill, release, sums_of, IsBalanced,
+  Book,
+  add,
+  convert,
+  cost_of,
+  credit,
+  forget,
+  is_empty,
+  is_full,
+  plain_book,
+  opening,
+  raised,
+  ready,
+  refill,
+  release,
+  sums_of,
+  IsBalanced,
 };
 ghost use Rattle.retry_quota.specs.History.{after, acquire_reply, reply_to};
 ghost use Rattle.retry_quota.specs.History.{Acquire, Release, Forget, Reward, Regenerate, Convert};
 
-use crate::{MAXIMUM_CAPACITY, Permit, QuotaError, Sums};
+#[cfg(test)]
+mod tests;
+
+use crate::{MAXIMUM_CAPACITY, Permit, QuotaError, Sums, TokenBucketBuilder};
 use smithy_base::ErrorKind;
 use std::marker::Model;
 
@@ -40,17 +70,33 @@ impl Model for TokenBucket {
     ghost Value = { Book };
 
     ghost view = { λ b. record {
-        capacity = b.capacity; retry_cost = b.retry_cost; throttling_cost = b.throttling_retry_cost;
-        transient_cost = b.timeout_retry_cost; reward = b.success_reward; rate = b.refill_rate;
-        granted = b.granted; available = b.available; held = b.held; forgotten = b.forgotten;
-        fraction = b.fraction; last_second = b.last_refill_secs
+      capacity = b.capacity;
+      retry_cost = b.retry_cost;
+      throttling_cost = b.throttling_retry_cost;
+      transient_cost = b.timeout_retry_cost;
+      reward = b.success_reward;
+      rate = b.refill_rate;
+      granted = b.granted;
+      available = b.available;
+      held = b.held;
+      forgotten = b.forgotten;
+      fraction = b.fraction;
+      last_second = b.last_refill_secs;
     } };
 
     ghost invariant = { λ b. IsSound (record {
-        capacity = b.capacity; retry_cost = b.retry_cost; throttling_cost = b.throttling_retry_cost;
-        transient_cost = b.timeout_retry_cost; reward = b.success_reward; rate = b.refill_rate;
-        granted = b.granted; available = b.available; held = b.held; forgotten = b.forgotten;
-        fraction = b.fraction; last_second = b.last_refill_secs
+      capacity = b.capacity;
+      retry_cost = b.retry_cost;
+      throttling_cost = b.throttling_retry_cost;
+      transient_cost = b.timeout_retry_cost;
+      reward = b.success_reward;
+      rate = b.refill_rate;
+      granted = b.granted;
+      available = b.available;
+      held = b.held;
+      forgotten = b.forgotten;
+      fraction = b.fraction;
+      last_second = b.last_refill_secs;
     }) };
 }
 
@@ -92,6 +138,13 @@ impl TokenBucket {
             return Err(QuotaError::QuotaTooLarge);
         }
         Ok(TokenBucket::open(initial_quota, (5, 5, 10), 0, 0))
+    }
+
+    /// A builder with nothing set.
+    pub fn builder() -> TokenBucketBuilder
+        ensures { result ≡ plain_book 500 }
+    {
+        TokenBucketBuilder::new()
     }
 
     /// A bucket of the greatest capacity, from which every retry is free.

@@ -6,10 +6,10 @@ use Rattle.retry_quota.proofs.registry.RegistryQuota.forget.Goals as goal
 
 pub returns-then-holds : goal.returns-then-holds
 returns-then-holds g c =
-  let there = passed_there _ c.args.self.now.books c.args.permit.bucket (sym c.holds.ensures ∙ c.if-holds.true) in
-  settled _ _ _ (Forget c.args.permit.amount) there
+    let there = passed_there _ c.args.self.now.books c.args.permit.bucket (sym c.holds.ensures ∙ c.if-holds.true) in
+    settled _ _ _ (Forget c.args.permit.amount) there
     (step_written _ _ c.args.permit.bucket (Forget c.args.permit.amount) Done _ _ c.self.view_is there
-      c.index_mut-book.ensures.value c.forget.ensures refl)
+    c.index_mut-book.ensures.value c.forget.ensures refl)
 
 pub returns-else-holds : goal.returns-else-holds
 returns-else-holds g c = forget_foreign _ _ _ (sym c.holds.ensures ∙ c.if-holds.false)
