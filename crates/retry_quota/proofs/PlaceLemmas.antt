@@ -1,5 +1,5 @@
 -- A change at one place of a list, against the words of the code.
-use Rattle.std.proofs.Common.{◌≡◌, ◌∙◌, ap, refl, ℕ, zero, suc, ◌<◌, List, [], ◌∷◌, length, arith, Option, Some, None, ◌≤◌, Bool, false, true, nat_lt}
+use Rattle.std.proofs.Common.{◌≡◌, ◌∙◌, ap, refl, ℕ, zero, suc, ◌<◌, List, [], ◌∷◌, ◌++◌, ◌≢◌, length, arith, Option, Some, None, ◌≤◌, Bool, false, true, nat_lt}
 use Rattle.std.proofs.lemmas.Bool.{false≢true, leb-true, lt-ltb}
 use Rattle.std.specs.Prelude.{slice_set, slice_get, slice_index_or}
 use Rattle.std.specs.Option.{option_map_or}
@@ -60,3 +60,15 @@ passed_there p (x ∷ xs) zero passed = lt-ltb zero (length (x ∷ xs)) (omega a
 passed_there p (x ∷ xs) (suc i) passed =
     let there : suc i ≤ length xs = leb-true (suc i) (length xs) (passed_there p xs i passed) in
     lt-ltb (suc i) (length (x ∷ xs)) (omega arith)
+
+-- what is added stands last
+pub slice_get-last : {X : Type 0} → (xs : List X) (x : X) → slice_get (xs ++ x ∷ []) (length xs) ≡ Some x
+slice_get-last [] x = refl
+slice_get-last (y ∷ xs) x = slice_get-last xs x
+
+-- and all others where they were
+pub slice_get-before : {X : Type 0} → (xs : List X) (x : X) (i : ℕ) → i ≢ length xs → slice_get (xs ++ x ∷ []) i ≡ slice_get xs i
+slice_get-before [] x zero other = absurd (other refl)
+slice_get-before [] x (suc i) other = refl
+slice_get-before (y ∷ xs) x zero other = refl
+slice_get-before (y ∷ xs) x (suc i) other = slice_get-before xs x i (λ same. other (ap suc same))

@@ -1,7 +1,9 @@
 -- What a quota means to those that spend from it, and what a call does to that.
-use Rattle.std.specs.Prelude.{◌≡◌, ℕ, Bool, false, true, nat_lt, IsTrue, List, [], ◌∷◌, ◌++◌, Option, None, Some, IfSome, slice_get, length}
+use Rattle.std.specs.Prelude.{◌≡◌, ℕ, Bool, false, true, nat_lt, IsTrue, List, [], ◌∷◌, ◌++◌, Option, None, Some, IfSome, slice_get, length, option_map, MatchOption, ◌≢◌}
 use Rattle.smithy_base.specs.declared.kinds.ErrorKind.{ErrorKind}
-use Rattle.retry_quota.specs.Book.{Book, cost_of}
+use Rattle.smithy_base.specs.Partition.{same_partition}
+use Rattle.smithy_base.specs.declared.partition.RetryPartition.{RetryPartition}
+use Rattle.retry_quota.specs.Book.{Book, cost_of, plain_book}
 use Rattle.retry_quota.specs.History.{Step, Reply, Done, Entry, after, reply_to}
 use Rattle.retry_quota.specs.Place.{change_at}
 
@@ -17,9 +19,9 @@ pub record Meaning (L : Type 0) : Type 0 where
   pub entries : Option (List Entry)
   -- each limiter by its number
   pub limiters : List L
-  -- the numbers of the default partition of this name, where it has them
-  pub bucket_of : List ℕ → Option ℕ
-  pub limiter_of : List ℕ → Option ℕ
+  -- the numbers that are kept under a default partition
+  pub bucket_of : RetryPartition → Option ℕ
+  pub limiter_of : RetryPartition → Option ℕ
 
 -- where the books are told, they are those of the buckets that are there, with their costs and rewards
 pub record AreTheBuckets {L : Type 0} (m : Meaning L) (books : List Book) : Type 0 where
@@ -32,8 +34,8 @@ pub record KeepsBuckets {L : Type 0} (m n : Meaning L) : Type 0 where
   pub has : (bucket : ℕ) → n.has bucket ≡ m.has bucket
   pub cost : (bucket : ℕ) (kind : ErrorKind) → n.cost bucket kind ≡ m.cost bucket kind
   pub reward : (bucket : ℕ) → n.reward bucket ≡ m.reward bucket
-  pub bucket_of : (name : List ℕ) → n.bucket_of name ≡ m.bucket_of name
-  pub limiter_of : (name : List ℕ) → n.limiter_of name ≡ m.limiter_of name
+  pub bucket_of : (partition : RetryPartition) → n.bucket_of partition ≡ m.bucket_of partition
+  pub limiter_of : (partition : RetryPartition) → n.limiter_of partition ≡ m.limiter_of partition
 
 -- nothing that is told has changed
 pub record IsKept {L : Type 0} (m n : Meaning L) : Type 0 where
@@ -79,3 +81,44 @@ book_in (Some books) bucket = slice_get books bucket
 
 abbrev pub book_at : {L : Type 0} → Meaning L → ℕ → Option Book
 book_at m bucket = book_in m.books bucket
+
+-- a default bucket is added under the partition, and nothing else changes
+pub record AddsBucket {L : Type 0} (m : Meaning L) (partition : RetryPartition) (number : ℕ) (n : Meaning L) : Type 0 where
+  pub new : m.has number ≡ false
+  pub there : n.has number ≡ true
+  pub others_there : (bucket : ℕ) → bucket ≢ number → n.has bucket ≡ m.has bucket
+  pub cost : (kind : ErrorKind) → n.cost number kind ≡ cost_of kind (plain_book 500)
+  pub other_costs : (bucket : ℕ) (kind : ErrorKind) → bucket ≢ number → n.cost bucket kind ≡ m.cost bucket kind
+  pub reward : n.reward number ≡ 0
+  pub other_rewards : (bucket : ℕ) → bucket ≢ number → n.reward bucket ≡ m.reward bucket
+  pub books : n.books ≡ option_map (λ books. books ++ plain_book 500 ∷ []) m.books
+  pub named : n.bucket_of partition ≡ Some number
+  pub other_names : (other : RetryPartition) → same_partition other partition ≡ false → n.bucket_of other ≡ m.bucket_of other
+  pub limiter_of : (other : RetryPartition) → n.limiter_of other ≡ m.limiter_of other
+  pub entries : n.entries ≡ m.entries
+  pub limiters : n.limiters ≡ m.limiters
+
+-- a custom partition's bucket; for a default one the bucket that is kept under it, or a new one
+abbrev pub AnswersBucket : {L : Type 0} → Meaning L → RetryPartition → ℕ → Meaning L → Type 0
+AnswersBucket m partition number n = MatchOption partition.custom
+  (MatchOption (m.bucket_of partition) (AddsBucket m partition number n) (λ known. (number ≡ known) × IsKept m n))
+  (λ numbers. (number ≡ numbers.bucket) × IsKept m n)
+
+-- a limiter is added under the partition, and nothing else changes
+pub record AddsLimiter {L : Type 0} (m : Meaning L) (partition : RetryPartition) (limiter : L) (number : ℕ) (n : Meaning L) : Type 0 where
+  pub new : number ≡ length m.limiters
+  pub limiters : n.limiters ≡ m.limiters ++ limiter ∷ []
+  pub named : n.limiter_of partition ≡ Some number
+  pub other_names : (other : RetryPartition) → same_partition other partition ≡ false → n.limiter_of other ≡ m.limiter_of other
+  pub bucket_of : (other : RetryPartition) → n.bucket_of other ≡ m.bucket_of other
+  pub has : (bucket : ℕ) → n.has bucket ≡ m.has bucket
+  pub cost : (bucket : ℕ) (kind : ErrorKind) → n.cost bucket kind ≡ m.cost bucket kind
+  pub reward : (bucket : ℕ) → n.reward bucket ≡ m.reward bucket
+  pub books : n.books ≡ m.books
+  pub entries : n.entries ≡ m.entries
+
+-- a custom partition's limiter; for a default one the limiter that is kept under it, or this new one
+abbrev pub AnswersLimiter : {L : Type 0} → Meaning L → RetryPartition → L → ℕ → Meaning L → Type 0
+AnswersLimiter m partition limiter number n = MatchOption partition.custom
+  (MatchOption (m.limiter_of partition) (AddsLimiter m partition limiter number n) (λ known. (number ≡ known) × IsKept m n))
+  (λ numbers. (number ≡ numbers.limiter) × IsKept m n)

@@ -1,14 +1,15 @@
-ghost use Rattle.std.specs.Prelude.{◌≡◌, ℕ, IsTrue, IsSome, ◌↔◌, IfSome, Option, None, Some, is_some, slice_get, option_map, Ok};
+ghost use Rattle.std.specs.Prelude.{◌≡◌, ℕ, IsTrue, IsSome, ◌↔◌, IfSome, IfOk, OnErr, Option, None, Some, is_some, slice_get, option_map, Ok};
 ghost use Rattle.std.specs.Option.{option_map_or};
 ghost use Rattle.retry_quota.specs.Book.{sums_of};
 ghost use Rattle.retry_quota.specs.History.{Acquire, Release, Forget, Reward, Regenerate, Done, acquire_reply};
 
 use crate::{Limiter, RequestReason, Sums};
-use smithy_base::ErrorKind;
+use smithy_base::{ErrorKind, OutOfMemory, RetryPartition, RetrySpec};
+use std::alloc::Global;
 
 /// Buckets and limiters by their numbers, from which retries are paid.
 pub trait Quota {
-    ghost use Rattle.retry_quota.specs.Meaning.{Meaning, Steps, Settles, ChangesLimiter, AreTheBuckets, book_at};
+    ghost use Rattle.retry_quota.specs.Meaning.{Meaning, Steps, Settles, ChangesLimiter, AreTheBuckets, AnswersBucket, AnswersLimiter, IsKept, book_at};
 
     /// What an acquire gives. It is spent by a release or a forget.
     type Permit: Drop;
@@ -67,6 +68,28 @@ pub trait Quota {
     fn sums(&self, bucket: u32) -> Option<Sums>
         requires { IsTrue ((meaning self.now).has bucket) }
         ensures { result ≡ option_map sums_of (book_at (meaning self.now) bucket) };
+
+    /// The number of the partition's bucket: a custom one brings it. For a default one it is the
+    /// bucket that is kept under its name, and a default bucket is added where the name is new.
+    fn bucket_for(
+        &mut self,
+        alloc: Global,
+        partition: &RetryPartition,
+        spec: Option<&RetrySpec>,
+    ) -> Result<u32, OutOfMemory>
+        ensures ok { IfOk result (λ number. AnswersBucket (meaning self.old) partition.now number (meaning self.new)) }
+        ensures err { OnErr result (IsKept (meaning self.old) (meaning self.new)) };
+
+    /// The number of the partition's limiter: a custom one brings it. For a default one it is the
+    /// limiter that is kept under its name, and one that begins now is added where the name is new.
+    fn limiter_for(
+        &mut self,
+        alloc: Global,
+        partition: &RetryPartition,
+        now: u64,
+    ) -> Result<u32, OutOfMemory>
+        ensures ok { IfOk result (λ number. AnswersLimiter (meaning self.old) partition.now (Self.Limiter.at now) number (meaning self.new)) }
+        ensures err { OnErr result (IsKept (meaning self.old) (meaning self.new)) };
 
     /// Asks a limiter for a request at this moment. A number that isn't there refuses nothing.
     fn limiter_acquire(&mut self, limiter: u32, now: u64, reason: RequestReason) -> Result<(), u64>

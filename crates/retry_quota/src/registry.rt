@@ -1,10 +1,14 @@
-ghost use Rattle.std.specs.Prelude.{◌≡◌, ◌++◌, ◌∷◌, [], length, IfOk, IsOkAnd, OnErr};
+ghost use Rattle.std.specs.Prelude.{◌≡◌, ◌++◌, ◌∷◌, [], length, IfOk, IsOkAnd, OnOk, OnErr, None};
+ghost use Rattle.std.specs.Map.{lookup};
+ghost use Rattle.smithy_base.specs.Partition.{same_partition};
 
 #[cfg(test)]
 mod tests;
 
-use crate::{Limiter, Permit, Quota, RequestReason, Sums, TokenBucket};
-use smithy_base::{ErrorKind, OutOfMemory};
+use crate::{Limiter, PartitionTable, Permit, Quota, RequestReason, Sums, TokenBucket};
+use smithy_base::{
+    CustomPartition, ErrorKind, OutOfMemory, PartitionRegistry, RetryPartition, RetrySpec,
+};
 use std::alloc::Global;
 use std::marker::Model;
 
@@ -13,6 +17,8 @@ use std::marker::Model;
 pub struct Registry<L: Limiter> {
     buckets: Vec<TokenBucket>,
     limiters: Vec<L>,
+    bucket_names: PartitionTable<RetryPartition, u32>,
+    limiter_names: PartitionTable<RetryPartition, u32>,
 }
 
 impl<L: Limiter> Model for Registry<L> {
@@ -20,18 +26,21 @@ impl<L: Limiter> Model for Registry<L> {
 
     ghost Value = { Registers L };
 
-    ghost view = { λ r. record { books = r.buckets.items; limiters = r.limiters.items } };
+    ghost view = { λ r. record { books = r.buckets.items; limiters = r.limiters.items; bucket_names = r.bucket_names; limiter_names = r.limiter_names } };
 }
 
 impl<L: Limiter> Registry<L> {
     /// The registry without buckets and limiters, which takes no memory yet.
     pub fn new(alloc: Global) -> Result<Registry<L>, OutOfMemory>
         ensures no_buckets { IsOkAnd result (λ r. r.books ≡ []) }
+        ensures no_names { IsOkAnd result (λ r. (r.bucket_names ≡ []) × (r.limiter_names ≡ [])) }
         ensures no_limiters { IsOkAnd result (λ r. r.limiters ≡ []) }
     {
         Ok(Registry {
             buckets: Vec::new(alloc),
             limiters: Vec::new(alloc),
+            bucket_names: PartitionTable::new(),
+            limiter_names: PartitionTable::new(),
         })
     }
 
@@ -82,6 +91,87 @@ fn next_number(len: usize) -> Result<u32, OutOfMemory>
     ensures { IfOk result (λ number. number ≡ len) }
 {
     u32::try_from(len).map_err(|_| OutOfMemory)
+}
+
+// Adds an item behind the others, and its number under the partition, which is new.
+fn add_named<T: Drop>(
+    items: &mut Vec<T>,
+    names: &mut PartitionTable<RetryPartition, u32>,
+    alloc: Global,
+    partition: &RetryPartition,
+    item: T,
+) -> Result<u32, OutOfMemory>
+    requires { lookup (same_partition partition.now) names.old ≡ None }
+    ensures number { IfOk result (λ number. number ≡ length items.old.items) }
+    ensures items { OnOk result (items.new.items ≡ items.old.items ++ item ∷ []) }
+    ensures names { IfOk result (λ number. names.new ≡ names.old ++ (partition.now, number) ∷ []) }
+    ensures items_kept { OnErr result (items.new.items ≡ items.old.items) }
+    ensures names_kept { OnErr result (names.new ≡ names.old) }
+{
+    let number = next_number(items.len())?;
+    let key = partition.clone()?;
+    items.push(item)?;
+    let added = names.add(alloc, key, number);
+    if added.is_err() {
+        items.pop();
+    }
+    added
+}
+
+impl<L: Limiter> Registry<L> {
+    ghost use Rattle.std.specs.Prelude.{MatchOption};
+    ghost use Rattle.retry_quota.specs.Book.{plain_book};
+
+    // The bucket that is asked for, or a new default one.
+    fn bucket_or_new(&mut self, alloc: Global, asked: Option<u32>) -> Result<u32, OutOfMemory>
+        ensures number { IfOk result (λ number. MatchOption asked (number ≡ length self.old.books) (λ known. number ≡ known)) }
+        ensures ok { OnOk result (MatchOption asked (self.new ≡ record self.old { books = self.old.books ++ plain_book 500 ∷ [] }) (λ known. self.new ≡ self.old)) }
+        ensures err { OnErr result (self.new ≡ self.old) }
+    {
+        match asked {
+            Some(number) => Ok(number),
+            None => self.add_bucket(alloc, TokenBucket::default()),
+        }
+    }
+
+    // The limiter that is asked for, or a new one whose numbers are zero.
+    fn limiter_or_new(&mut self, alloc: Global, asked: Option<u32>) -> Result<u32, OutOfMemory>
+        ensures number { IfOk result (λ number. MatchOption asked (number ≡ length self.old.limiters) (λ known. number ≡ known)) }
+        ensures ok { OnOk result (MatchOption asked (self.new ≡ record self.old { limiters = self.old.limiters ++ L.zero ∷ [] }) (λ known. self.new ≡ self.old)) }
+        ensures err { OnErr result (self.new ≡ self.old) }
+    {
+        match asked {
+            Some(number) => Ok(number),
+            None => self.add_limiter(alloc, L::zero()),
+        }
+    }
+}
+
+impl<L: Limiter> PartitionRegistry for Registry<L> {
+    ghost use Rattle.retry_quota.specs.Registers.{GivesNumbers};
+
+    ghost registers = { GivesNumbers L.zero };
+
+    fn register(
+        &mut self,
+        alloc: Global,
+        bucket: Option<u32>,
+        limiter: Option<u32>,
+    ) -> Result<CustomPartition, OutOfMemory> {
+        let bucket_number = self.bucket_or_new(alloc, bucket)?;
+        match self.limiter_or_new(alloc, limiter) {
+            Ok(limiter_number) => Ok(CustomPartition {
+                bucket: bucket_number,
+                limiter: limiter_number,
+            }),
+            Err(error) => {
+                if bucket.is_none() {
+                    self.buckets.pop();
+                }
+                Err(error)
+            }
+        }
+    }
 }
 
 impl<L: Limiter> Quota for Registry<L> {
@@ -146,6 +236,40 @@ impl<L: Limiter> Quota for Registry<L> {
 
     fn sums(&self, bucket: u32) -> Option<Sums> {
         Some(self.buckets[bucket as usize].sums())
+    }
+
+    fn bucket_for(
+        &mut self,
+        alloc: Global,
+        partition: &RetryPartition,
+        _spec: Option<&RetrySpec>,
+    ) -> Result<u32, OutOfMemory> {
+        if let Some(numbers) = partition.custom {
+            return Ok(numbers.bucket);
+        }
+        if let Some(number) = self.bucket_names.get(alloc, partition)? {
+            return Ok(number);
+        }
+        let bucket = TokenBucket::default();
+        let number = add_named(&mut self.buckets, &mut self.bucket_names, alloc, partition, bucket)?;
+        Ok(number)
+    }
+
+    fn limiter_for(
+        &mut self,
+        alloc: Global,
+        partition: &RetryPartition,
+        now: u64,
+    ) -> Result<u32, OutOfMemory> {
+        if let Some(numbers) = partition.custom {
+            return Ok(numbers.limiter);
+        }
+        if let Some(number) = self.limiter_names.get(alloc, partition)? {
+            return Ok(number);
+        }
+        let limiter = L::at(now);
+        let number = add_named(&mut self.limiters, &mut self.limiter_names, alloc, partition, limiter)?;
+        Ok(number)
     }
 
     fn limiter_acquire(

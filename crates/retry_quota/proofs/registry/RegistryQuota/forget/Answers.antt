@@ -12,4 +12,4 @@ returns-then-holds g c =
     c.index_mut-book.ensures.value c.forget.ensures refl)
 
 pub returns-else-holds : goal.returns-else-holds
-returns-else-holds g c = forget_foreign _ _ _ (sym c.holds.ensures ∙ c.if-holds.false)
+returns-else-holds g c = forget_foreign c.args.self.now _ _ (sym c.holds.ensures ∙ c.if-holds.false)
