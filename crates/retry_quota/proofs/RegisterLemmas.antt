@@ -173,8 +173,8 @@ length_last : {X : Type 0} → (xs : List X) (x : X) → length (xs ++ x ∷ [])
 length_last xs x = length-append xs (x ∷ [])
 
 bucket_added : {L : Type 0} → (r : Registers L) (p : RetryPartition) → lookup (same_partition p) r.bucket_names ≡ None
-  → AddsBucket (meaning_of r) p (length r.books)
-      (meaning_of (record r { books = r.books ++ plain_book 500 ∷ []; bucket_names = r.bucket_names ++ (p, length r.books) ∷ [] }))
+    → AddsBucket (meaning_of r) p (length r.books)
+    (meaning_of (record r { books = r.books ++ plain_book 500 ∷ []; bucket_names = r.bucket_names ++ (p, length r.books) ∷ [] }))
 bucket_added r p none = record {
   new = not_lt_itself (length r.books);
   there = ap (λ n. nat_lt (length r.books) n) (length_last r.books (plain_book 500)) ∙ lt_next (length r.books);
@@ -188,45 +188,45 @@ bucket_added r p none = record {
   other_names = λ q other. lookup-other (same_partition q) p (length r.books) r.bucket_names other;
   limiter_of = λ q. refl;
   entries = refl;
-  limiters = refl
+  limiters = refl;
 }
 
 -- a default partition without a bucket gets a new one
 pub bucket_answered : {L : Type 0} → (r s : Registers L) (p : RetryPartition) (number : ℕ) (books : List Book) (names : List (RetryPartition × ℕ))
-  → r ≡ s → p.custom ≡ None → lookup (same_partition p) r.bucket_names ≡ None → number ≡ length r.books
-  → books ≡ r.books ++ plain_book 500 ∷ [] → names ≡ r.bucket_names ++ (p, number) ∷ []
-  → AnswersBucket (meaning_of s) p number (meaning_of (record r { books = books; bucket_names = names }))
+    → r ≡ s → p.custom ≡ None → lookup (same_partition p) r.bucket_names ≡ None → number ≡ length r.books
+    → books ≡ r.books ++ plain_book 500 ∷ [] → names ≡ r.bucket_names ++ (p, number) ∷ []
+    → AnswersBucket (meaning_of s) p number (meaning_of (record r { books = books; bucket_names = names }))
 bucket_answered {L} r s p number books names same default none is_next added named =
-  let next : AddsBucket (meaning_of r) p number (meaning_of (record r { books = r.books ++ plain_book 500 ∷ []; bucket_names = r.bucket_names ++ (p, number) ∷ [] })) =
+    let next : AddsBucket (meaning_of r) p number (meaning_of (record r { books = r.books ++ plain_book 500 ∷ []; bucket_names = r.bucket_names ++ (p, number) ∷ [] })) =
     subst (λ n. AddsBucket (meaning_of r) p n (meaning_of (record r { books = r.books ++ plain_book 500 ∷ []; bucket_names = r.bucket_names ++ (p, n) ∷ [] })))
-      (sym is_next) (bucket_added r p none) in
-  let with_books : AddsBucket (meaning_of r) p number (meaning_of (record r { books = books; bucket_names = r.bucket_names ++ (p, number) ∷ [] })) =
+    (sym is_next) (bucket_added r p none) in
+    let with_books : AddsBucket (meaning_of r) p number (meaning_of (record r { books = books; bucket_names = r.bucket_names ++ (p, number) ∷ [] })) =
     subst (λ (bs : List Book). AddsBucket (meaning_of r) p number (meaning_of (record r { books = bs; bucket_names = r.bucket_names ++ (p, number) ∷ [] }))) (sym added) next in
-  let with_names : AddsBucket (meaning_of r) p number (meaning_of (record r { books = books; bucket_names = names })) =
+    let with_names : AddsBucket (meaning_of r) p number (meaning_of (record r { books = books; bucket_names = names })) =
     subst (λ (ns : List (RetryPartition × ℕ)). AddsBucket (meaning_of r) p number (meaning_of (record r { books = books; bucket_names = ns }))) (sym named) with_books in
-  let after : Meaning L = meaning_of (record r { books = books; bucket_names = names }) in
-  let unknown : MatchOption (lookup (same_partition p) r.bucket_names) (AddsBucket (meaning_of r) p number after) (λ known. (number ≡ known) × IsKept (meaning_of r) after) =
+    let after : Meaning L = meaning_of (record r { books = books; bucket_names = names }) in
+    let unknown : MatchOption (lookup (same_partition p) r.bucket_names) (AddsBucket (meaning_of r) p number after) (λ known. (number ≡ known) × IsKept (meaning_of r) after) =
     subst (λ o. MatchOption o (AddsBucket (meaning_of r) p number after) (λ known. (number ≡ known) × IsKept (meaning_of r) after)) (sym none) with_names in
-  let answered : AnswersBucket (meaning_of r) p number after =
+    let answered : AnswersBucket (meaning_of r) p number after =
     subst (λ o. MatchOption o (MatchOption (lookup (same_partition p) r.bucket_names) (AddsBucket (meaning_of r) p number after) (λ known. (number ≡ known) × IsKept (meaning_of r) after))
-      (λ numbers. (number ≡ numbers.bucket) × IsKept (meaning_of r) after)) (sym default) unknown in
-  subst (λ (t : Registers L). AnswersBucket (meaning_of t) p number after) same answered
+    (λ numbers. (number ≡ numbers.bucket) × IsKept (meaning_of r) after)) (sym default) unknown in
+    subst (λ (t : Registers L). AnswersBucket (meaning_of t) p number after) same answered
 
 -- a default partition with a bucket has that one
 pub bucket_known : {L : Type 0} → (r s : Registers L) (p : RetryPartition) (number : ℕ)
-  → r ≡ s → p.custom ≡ None → lookup (same_partition p) r.bucket_names ≡ Some number
-  → AnswersBucket (meaning_of s) p number (meaning_of s)
+    → r ≡ s → p.custom ≡ None → lookup (same_partition p) r.bucket_names ≡ Some number
+    → AnswersBucket (meaning_of s) p number (meaning_of s)
 bucket_known {L} r s p number same default known =
-  let found : MatchOption (lookup (same_partition p) r.bucket_names) (AddsBucket (meaning_of r) p number (meaning_of r)) (λ other. (number ≡ other) × IsKept (meaning_of r) (meaning_of r)) =
+    let found : MatchOption (lookup (same_partition p) r.bucket_names) (AddsBucket (meaning_of r) p number (meaning_of r)) (λ other. (number ≡ other) × IsKept (meaning_of r) (meaning_of r)) =
     subst (λ o. MatchOption o (AddsBucket (meaning_of r) p number (meaning_of r)) (λ other. (number ≡ other) × IsKept (meaning_of r) (meaning_of r))) (sym known) (refl, kept r) in
-  let answered : AnswersBucket (meaning_of r) p number (meaning_of r) =
+    let answered : AnswersBucket (meaning_of r) p number (meaning_of r) =
     subst (λ o. MatchOption o (MatchOption (lookup (same_partition p) r.bucket_names) (AddsBucket (meaning_of r) p number (meaning_of r)) (λ other. (number ≡ other) × IsKept (meaning_of r) (meaning_of r)))
-      (λ numbers. (number ≡ numbers.bucket) × IsKept (meaning_of r) (meaning_of r))) (sym default) found in
-  subst (λ (t : Registers L). AnswersBucket (meaning_of t) p number (meaning_of t)) same answered
+    (λ numbers. (number ≡ numbers.bucket) × IsKept (meaning_of r) (meaning_of r))) (sym default) found in
+    subst (λ (t : Registers L). AnswersBucket (meaning_of t) p number (meaning_of t)) same answered
 
 limiter_added : {L : Type 0} → (r : Registers L) (p : RetryPartition) (limiter : L) → lookup (same_partition p) r.limiter_names ≡ None
-  → AddsLimiter (meaning_of r) p limiter (length r.limiters)
-      (meaning_of (record r { limiters = r.limiters ++ limiter ∷ []; limiter_names = r.limiter_names ++ (p, length r.limiters) ∷ [] }))
+    → AddsLimiter (meaning_of r) p limiter (length r.limiters)
+    (meaning_of (record r { limiters = r.limiters ++ limiter ∷ []; limiter_names = r.limiter_names ++ (p, length r.limiters) ∷ [] }))
 limiter_added r p limiter none = record {
   new = refl;
   limiters = refl;
@@ -237,38 +237,38 @@ limiter_added r p limiter none = record {
   cost = λ i kind. refl;
   reward = λ i. refl;
   books = refl;
-  entries = refl
+  entries = refl;
 }
 
 -- a default partition without a limiter gets a new one
 pub limiter_answered : {L : Type 0} → (r s : Registers L) (p : RetryPartition) (limiter : L) (number : ℕ) (limiters : List L) (names : List (RetryPartition × ℕ))
-  → r ≡ s → p.custom ≡ None → lookup (same_partition p) r.limiter_names ≡ None → number ≡ length r.limiters
-  → limiters ≡ r.limiters ++ limiter ∷ [] → names ≡ r.limiter_names ++ (p, number) ∷ []
-  → AnswersLimiter (meaning_of s) p limiter number (meaning_of (record r { limiters = limiters; limiter_names = names }))
+    → r ≡ s → p.custom ≡ None → lookup (same_partition p) r.limiter_names ≡ None → number ≡ length r.limiters
+    → limiters ≡ r.limiters ++ limiter ∷ [] → names ≡ r.limiter_names ++ (p, number) ∷ []
+    → AnswersLimiter (meaning_of s) p limiter number (meaning_of (record r { limiters = limiters; limiter_names = names }))
 limiter_answered {L} r s p limiter number limiters names same default none is_next added named =
-  let next : AddsLimiter (meaning_of r) p limiter number (meaning_of (record r { limiters = r.limiters ++ limiter ∷ []; limiter_names = r.limiter_names ++ (p, number) ∷ [] })) =
+    let next : AddsLimiter (meaning_of r) p limiter number (meaning_of (record r { limiters = r.limiters ++ limiter ∷ []; limiter_names = r.limiter_names ++ (p, number) ∷ [] })) =
     subst (λ n. AddsLimiter (meaning_of r) p limiter n (meaning_of (record r { limiters = r.limiters ++ limiter ∷ []; limiter_names = r.limiter_names ++ (p, n) ∷ [] })))
-      (sym is_next) (limiter_added r p limiter none) in
-  let with_limiters : AddsLimiter (meaning_of r) p limiter number (meaning_of (record r { limiters = limiters; limiter_names = r.limiter_names ++ (p, number) ∷ [] })) =
+    (sym is_next) (limiter_added r p limiter none) in
+    let with_limiters : AddsLimiter (meaning_of r) p limiter number (meaning_of (record r { limiters = limiters; limiter_names = r.limiter_names ++ (p, number) ∷ [] })) =
     subst (λ (ls : List L). AddsLimiter (meaning_of r) p limiter number (meaning_of (record r { limiters = ls; limiter_names = r.limiter_names ++ (p, number) ∷ [] }))) (sym added) next in
-  let with_names : AddsLimiter (meaning_of r) p limiter number (meaning_of (record r { limiters = limiters; limiter_names = names })) =
+    let with_names : AddsLimiter (meaning_of r) p limiter number (meaning_of (record r { limiters = limiters; limiter_names = names })) =
     subst (λ (ns : List (RetryPartition × ℕ)). AddsLimiter (meaning_of r) p limiter number (meaning_of (record r { limiters = limiters; limiter_names = ns }))) (sym named) with_limiters in
-  let after : Meaning L = meaning_of (record r { limiters = limiters; limiter_names = names }) in
-  let unknown : MatchOption (lookup (same_partition p) r.limiter_names) (AddsLimiter (meaning_of r) p limiter number after) (λ known. (number ≡ known) × IsKept (meaning_of r) after) =
+    let after : Meaning L = meaning_of (record r { limiters = limiters; limiter_names = names }) in
+    let unknown : MatchOption (lookup (same_partition p) r.limiter_names) (AddsLimiter (meaning_of r) p limiter number after) (λ known. (number ≡ known) × IsKept (meaning_of r) after) =
     subst (λ o. MatchOption o (AddsLimiter (meaning_of r) p limiter number after) (λ known. (number ≡ known) × IsKept (meaning_of r) after)) (sym none) with_names in
-  let answered : AnswersLimiter (meaning_of r) p limiter number after =
+    let answered : AnswersLimiter (meaning_of r) p limiter number after =
     subst (λ o. MatchOption o (MatchOption (lookup (same_partition p) r.limiter_names) (AddsLimiter (meaning_of r) p limiter number after) (λ known. (number ≡ known) × IsKept (meaning_of r) after))
-      (λ numbers. (number ≡ numbers.limiter) × IsKept (meaning_of r) after)) (sym default) unknown in
-  subst (λ (t : Registers L). AnswersLimiter (meaning_of t) p limiter number after) same answered
+    (λ numbers. (number ≡ numbers.limiter) × IsKept (meaning_of r) after)) (sym default) unknown in
+    subst (λ (t : Registers L). AnswersLimiter (meaning_of t) p limiter number after) same answered
 
 -- a default partition with a limiter has that one
 pub limiter_known : {L : Type 0} → (r s : Registers L) (p : RetryPartition) (limiter : L) (number : ℕ)
-  → r ≡ s → p.custom ≡ None → lookup (same_partition p) r.limiter_names ≡ Some number
-  → AnswersLimiter (meaning_of s) p limiter number (meaning_of s)
+    → r ≡ s → p.custom ≡ None → lookup (same_partition p) r.limiter_names ≡ Some number
+    → AnswersLimiter (meaning_of s) p limiter number (meaning_of s)
 limiter_known {L} r s p limiter number same default known =
-  let found : MatchOption (lookup (same_partition p) r.limiter_names) (AddsLimiter (meaning_of r) p limiter number (meaning_of r)) (λ other. (number ≡ other) × IsKept (meaning_of r) (meaning_of r)) =
+    let found : MatchOption (lookup (same_partition p) r.limiter_names) (AddsLimiter (meaning_of r) p limiter number (meaning_of r)) (λ other. (number ≡ other) × IsKept (meaning_of r) (meaning_of r)) =
     subst (λ o. MatchOption o (AddsLimiter (meaning_of r) p limiter number (meaning_of r)) (λ other. (number ≡ other) × IsKept (meaning_of r) (meaning_of r))) (sym known) (refl, kept r) in
-  let answered : AnswersLimiter (meaning_of r) p limiter number (meaning_of r) =
+    let answered : AnswersLimiter (meaning_of r) p limiter number (meaning_of r) =
     subst (λ o. MatchOption o (MatchOption (lookup (same_partition p) r.limiter_names) (AddsLimiter (meaning_of r) p limiter number (meaning_of r)) (λ other. (number ≡ other) × IsKept (meaning_of r) (meaning_of r)))
-      (λ numbers. (number ≡ numbers.limiter) × IsKept (meaning_of r) (meaning_of r))) (sym default) found in
-  subst (λ (t : Registers L). AnswersLimiter (meaning_of t) p limiter number (meaning_of t)) same answered
+    (λ numbers. (number ≡ numbers.limiter) × IsKept (meaning_of r) (meaning_of r))) (sym default) found in
+    subst (λ (t : Registers L). AnswersLimiter (meaning_of t) p limiter number (meaning_of t)) same answered

@@ -3,6 +3,7 @@ use Rattle.std.specs.Prelude.{◌≡◌, ℕ, ◌+◌, ◌-◌, ◌*◌, ◌/◌
 use Rattle.smithy_base.specs.declared.kinds.ErrorKind.{ErrorKind}
 use Rattle.smithy_base.specs.declared.kinds.ErrorKind.TheVariants.{TransientError, ThrottlingError, ServerError, ClientError}
 use Rattle.smithy_base.specs.declared.sums.Sums.{Sums}
+use Rattle.retry_quota.specs.declared.TheConstants.{MAXIMUM_CAPACITY}
 
 -- whole tokens, but for the reward, the rate and the fraction, which are thousandths of a token
 pub record Book : Type 0 where
@@ -44,7 +45,7 @@ IsBalanced b = b.available + b.held + b.forgotten ≡ b.capacity + b.granted
 
 -- what a bucket of the program keeps
 pub record IsSound (b : Book) : Type 0 where
-  pub bounded : b.capacity ≤ 500000000
+  pub bounded : b.capacity ≤ MAXIMUM_CAPACITY
   pub balanced : IsBalanced b
   pub counted : b.capacity + b.granted < 2 ^ 64
 

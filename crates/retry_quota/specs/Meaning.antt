@@ -101,8 +101,8 @@ pub record AddsBucket {L : Type 0} (m : Meaning L) (partition : RetryPartition) 
 -- a custom partition's bucket; for a default one the bucket that is kept under it, or a new one
 abbrev pub AnswersBucket : {L : Type 0} → Meaning L → RetryPartition → ℕ → Meaning L → Type 0
 AnswersBucket m partition number n = MatchOption partition.custom
-  (MatchOption (m.bucket_of partition) (AddsBucket m partition number n) (λ known. (number ≡ known) × IsKept m n))
-  (λ numbers. (number ≡ numbers.bucket) × IsKept m n)
+    (MatchOption (m.bucket_of partition) (AddsBucket m partition number n) (λ known. (number ≡ known) × IsKept m n))
+    (λ numbers. (number ≡ numbers.bucket) × IsKept m n)
 
 -- a limiter is added under the partition, and nothing else changes
 pub record AddsLimiter {L : Type 0} (m : Meaning L) (partition : RetryPartition) (limiter : L) (number : ℕ) (n : Meaning L) : Type 0 where
@@ -120,5 +120,5 @@ pub record AddsLimiter {L : Type 0} (m : Meaning L) (partition : RetryPartition)
 -- a custom partition's limiter; for a default one the limiter that is kept under it, or this new one
 abbrev pub AnswersLimiter : {L : Type 0} → Meaning L → RetryPartition → L → ℕ → Meaning L → Type 0
 AnswersLimiter m partition limiter number n = MatchOption partition.custom
-  (MatchOption (m.limiter_of partition) (AddsLimiter m partition limiter number n) (λ known. (number ≡ known) × IsKept m n))
-  (λ numbers. (number ≡ numbers.limiter) × IsKept m n)
+    (MatchOption (m.limiter_of partition) (AddsLimiter m partition limiter number n) (λ known. (number ≡ known) × IsKept m n))
+    (λ numbers. (number ≡ numbers.limiter) × IsKept m n)

@@ -48,10 +48,10 @@ told_books r = record {
 -- bucket or a zero limiter is added
 pub record GivesNumbers {L : Type 0} (zero : L) (old : Registers L) (asked_bucket asked_limiter : Option ℕ) (numbers : CustomPartition) (new : Registers L) : Type 0 where
   pub bucket : MatchOption asked_bucket
-    ((numbers.bucket ≡ length old.books) × (new.books ≡ old.books ++ plain_book 500 ∷ []))
-    (λ asked. (numbers.bucket ≡ asked) × (new.books ≡ old.books))
+      ((numbers.bucket ≡ length old.books) × (new.books ≡ old.books ++ plain_book 500 ∷ []))
+      (λ asked. (numbers.bucket ≡ asked) × (new.books ≡ old.books))
   pub limiter : MatchOption asked_limiter
-    ((numbers.limiter ≡ length old.limiters) × (new.limiters ≡ old.limiters ++ zero ∷ []))
-    (λ asked. (numbers.limiter ≡ asked) × (new.limiters ≡ old.limiters))
+      ((numbers.limiter ≡ length old.limiters) × (new.limiters ≡ old.limiters ++ zero ∷ []))
+      (λ asked. (numbers.limiter ≡ asked) × (new.limiters ≡ old.limiters))
   pub bucket_names : new.bucket_names ≡ old.bucket_names
   pub limiter_names : new.limiter_names ≡ old.limiter_names

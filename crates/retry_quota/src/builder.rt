@@ -1,6 +1,7 @@
 ghost use Rattle.std.specs.Prelude.{◌≡◌, ◌≤◌, min};
 ghost use Rattle.retry_quota.specs.Book.{plain_book};
 
+use crate::token_bucket::{DEFAULT_CAPACITY, DEFAULT_RETRY_COST, DEFAULT_TIMEOUT_RETRY_COST};
 use crate::{MAXIMUM_CAPACITY, TokenBucket};
 use std::alloc::AllocError;
 use std::marker::Model;
@@ -20,12 +21,13 @@ pub struct TokenBucketBuilder {
 impl Model for TokenBucketBuilder {
     ghost use Rattle.std.specs.Prelude.{unwrap_or, ◌≤◌};
     ghost use Rattle.retry_quota.specs.Book.{Book, opening};
+    ghost use Rattle.retry_quota.specs.declared.TheConstants.{MAXIMUM_CAPACITY};
 
     ghost Value = { Book };
 
     ghost view = { λ b. opening (unwrap_or b.capacity 500) (unwrap_or b.retry_cost 5) (unwrap_or b.throttling_retry_cost 5) (unwrap_or b.timeout_retry_cost 10) (unwrap_or b.success_reward 0) (unwrap_or b.refill_rate 0) };
 
-    ghost invariant = { λ b. unwrap_or b.capacity 500 ≤ 500000000 };
+    ghost invariant = { λ b. unwrap_or b.capacity 500 ≤ MAXIMUM_CAPACITY };
 }
 
 impl TokenBucketBuilder {
@@ -45,7 +47,7 @@ impl TokenBucketBuilder {
 
     /// Sets the capacity. One above the maximum counts as the maximum.
     pub fn capacity(mut self, capacity: u64) -> TokenBucketBuilder
-        ensures { let most = min capacity 500000000 in result ≡ record self { capacity = most; available = most } }
+        ensures { let most = min capacity MAXIMUM_CAPACITY in result ≡ record self { capacity = most; available = most } }
     {
         self.capacity = Some(capacity.min(MAXIMUM_CAPACITY));
         self
@@ -96,12 +98,13 @@ impl TokenBucketBuilder {
         ensures { result ≡ self }
     {
         let costs = (
-            self.retry_cost.unwrap_or(5),
-            self.throttling_retry_cost.unwrap_or(5),
-            self.timeout_retry_cost.unwrap_or(10),
+            self.retry_cost.unwrap_or(DEFAULT_RETRY_COST),
+            self.throttling_retry_cost.unwrap_or(DEFAULT_RETRY_COST),
+            self.timeout_retry_cost
+                .unwrap_or(DEFAULT_TIMEOUT_RETRY_COST),
         );
         TokenBucket::open(
-            self.capacity.unwrap_or(500),
+            self.capacity.unwrap_or(DEFAULT_CAPACITY),
             costs,
             self.success_reward.unwrap_or(0),
             self.refill_rate.unwrap_or(0),

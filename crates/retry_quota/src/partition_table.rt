@@ -1,6 +1,9 @@
 ghost use Rattle.std.specs.Prelude.{◌≡◌, ◌++◌, ◌∷◌, [], None, IfOk, IfSome, OnOk, OnErr};
 ghost use Rattle.std.specs.Map.{lookup};
 
+#[cfg(test)]
+mod tests;
+
 use indexmap::IndexMap;
 use smithy_base::OutOfMemory;
 use std::alloc::Global;

@@ -251,7 +251,13 @@ impl<L: Limiter> Quota for Registry<L> {
             return Ok(number);
         }
         let bucket = TokenBucket::default();
-        let number = add_named(&mut self.buckets, &mut self.bucket_names, alloc, partition, bucket)?;
+        let number = add_named(
+            &mut self.buckets,
+            &mut self.bucket_names,
+            alloc,
+            partition,
+            bucket,
+        )?;
         Ok(number)
     }
 
@@ -268,7 +274,13 @@ impl<L: Limiter> Quota for Registry<L> {
             return Ok(number);
         }
         let limiter = L::at(now);
-        let number = add_named(&mut self.limiters, &mut self.limiter_names, alloc, partition, limiter)?;
+        let number = add_named(
+            &mut self.limiters,
+            &mut self.limiter_names,
+            alloc,
+            partition,
+            limiter,
+        )?;
         Ok(number)
     }
 

@@ -1,5 +1,8 @@
 ghost use Rattle.std.specs.Prelude.{◌≡◌};
 
+#[cfg(test)]
+mod tests;
+
 use crate::PartitionTable;
 use smithy_base::OutOfMemory;
 use std::alloc::Global;
@@ -7,6 +10,7 @@ use std::hash::Hash;
 use std::sync::{Mutex, Wait};
 
 /// A partition table that callers on many threads share. Each call has the table to itself.
+#[derive(Drop)]
 pub struct StaticPartitionMap<K: Eq + Hash, V> {
     table: Mutex<PartitionTable<K, V>>,
 }

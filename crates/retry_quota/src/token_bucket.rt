@@ -42,6 +42,15 @@ use crate::{MAXIMUM_CAPACITY, Permit, QuotaError, Sums, TokenBucketBuilder};
 use smithy_base::ErrorKind;
 use std::marker::Model;
 
+/// The capacity where none is set.
+pub(crate) const DEFAULT_CAPACITY: u64 = 500;
+
+/// What a retry costs where nothing else is set, after throttling too.
+pub(crate) const DEFAULT_RETRY_COST: u32 = 5;
+
+/// What a retry after a transient failure costs where nothing else is set.
+pub(crate) const DEFAULT_TIMEOUT_RETRY_COST: u32 = 10;
+
 /// How many thousandths a token has.
 const THOUSANDTHS: u64 = 1000;
 
@@ -108,7 +117,7 @@ impl TokenBucket {
         success_reward: u64,
         refill_rate: u64,
     ) -> TokenBucket
-        requires { capacity ≤ 500000000 }
+        requires { capacity ≤ MAXIMUM_CAPACITY }
         ensures { result ≡ opening capacity costs.0 costs.1 costs.2 success_reward refill_rate }
     {
         let (retry_cost, throttling_retry_cost, timeout_retry_cost) = costs;
@@ -128,16 +137,29 @@ impl TokenBucket {
         }
     }
 
+    // A bucket with the default costs, without a reward and without a refill.
+    fn plain(capacity: u64) -> TokenBucket
+        requires { capacity ≤ MAXIMUM_CAPACITY }
+        ensures { result ≡ plain_book capacity }
+    {
+        let costs = (
+            DEFAULT_RETRY_COST,
+            DEFAULT_RETRY_COST,
+            DEFAULT_TIMEOUT_RETRY_COST,
+        );
+        TokenBucket::open(capacity, costs, 0, 0)
+    }
+
     /// A bucket that opens with this many tokens, with the default costs of 5 tokens for a retry, 5
     /// after throttling and 10 after a transient failure, without a reward and without a refill.
     pub fn new(initial_quota: u64) -> Result<TokenBucket, QuotaError>
-        ensures ok { IsOk result ↔ (initial_quota ≤ 500000000) }
+        ensures ok { IsOk result ↔ (initial_quota ≤ MAXIMUM_CAPACITY) }
         ensures bucket { IfOk result (λ b. b ≡ plain_book initial_quota) }
     {
         if initial_quota > MAXIMUM_CAPACITY {
             return Err(QuotaError::QuotaTooLarge);
         }
-        Ok(TokenBucket::open(initial_quota, (5, 5, 10), 0, 0))
+        Ok(TokenBucket::plain(initial_quota))
     }
 
     /// A builder with nothing set.
@@ -149,7 +171,7 @@ impl TokenBucket {
 
     /// A bucket of the greatest capacity, from which every retry is free.
     pub fn unlimited() -> TokenBucket
-        ensures { result ≡ opening 500000000 0 0 0 0 0 }
+        ensures { result ≡ opening MAXIMUM_CAPACITY 0 0 0 0 0 }
     {
         TokenBucket::open(MAXIMUM_CAPACITY, (0, 0, 0), 0, 0)
     }
@@ -307,6 +329,6 @@ impl Default for TokenBucket {
     ghost is_default = { λ b. b ≡ plain_book 500 };
 
     fn default() -> TokenBucket {
-        TokenBucket::open(500, (5, 5, 10), 0, 0)
+        TokenBucket::plain(DEFAULT_CAPACITY)
     }
 }
