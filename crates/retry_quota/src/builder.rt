@@ -1,4 +1,4 @@
-ghost use Rattle.std.specs.Prelude.{◌≡◌, ◌≤◌, min};
+ghost use Rattle.std.specs.Prelude.{◌≡◌, min, IsOkAnd};
 ghost use Rattle.retry_quota.specs.Book.{plain_book};
 
 use crate::token_bucket::{DEFAULT_CAPACITY, DEFAULT_RETRY_COST, DEFAULT_TIMEOUT_RETRY_COST};
@@ -115,7 +115,9 @@ impl TokenBucketBuilder {
 impl Clone for TokenBucketBuilder {
     ghost is_clone = { λ builder copy. copy ≡ builder };
 
-    fn clone(&self) -> Result<TokenBucketBuilder, AllocError> {
+    fn clone(&self) -> Result<TokenBucketBuilder, AllocError>
+        ensures { IsOkAnd result (λ copy. copy ≡ self.now) }
+    {
         Ok(TokenBucketBuilder {
             capacity: self.capacity,
             retry_cost: self.retry_cost,

@@ -1,9 +1,6 @@
 ghost use Rattle.std.specs.Prelude.{◌≡◌, ◌++◌, ◌∷◌, [], None, IfOk, IfSome, OnOk, OnErr};
 ghost use Rattle.std.specs.Map.{lookup};
 
-#[cfg(test)]
-mod tests;
-
 use indexmap::IndexMap;
 use smithy_base::OutOfMemory;
 use std::alloc::Global;
@@ -83,8 +80,8 @@ impl<K: Eq + Hash, V> PartitionTable<K, V> {
         ensures added { IfOk result (λ v. lookup (K.eq key) self.old ≡ None → V.is_default v × (self.new ≡ self.old ++ (key, v) ∷ [])) }
         ensures err { OnErr result (self.new ≡ self.old) }
     {
-        if let Some(value) = self.get(alloc, &key)? {
-            return Ok(value);
+        if let Some(known) = self.get(alloc, &key)? {
+            return Ok(known);
         }
         self.add(alloc, key, V::default())
     }
@@ -101,8 +98,8 @@ impl<K: Eq + Hash, V> PartitionTable<K, V> {
         ensures err { OnErr result (self.new ≡ self.old) }
     {
         let copy = value.clone()?;
-        if let Some(map) = &mut self.map {
-            map.insert(key, value)?;
+        if let Some(known) = &mut self.map {
+            known.insert(key, value)?;
             return Ok(copy);
         }
         let mut map = IndexMap::new(alloc);
@@ -120,3 +117,6 @@ impl<K: Eq + Hash, V> Default for PartitionTable<K, V> {
         PartitionTable::new()
     }
 }
+
+#[cfg(test)]
+mod tests;

@@ -2,9 +2,6 @@ ghost use Rattle.std.specs.Prelude.{◌≡◌, ◌++◌, ◌∷◌, [], length, 
 ghost use Rattle.std.specs.Map.{lookup};
 ghost use Rattle.smithy_base.specs.Partition.{same_partition};
 
-#[cfg(test)]
-mod tests;
-
 use crate::{Limiter, PartitionTable, Permit, Quota, RequestReason, Sums, TokenBucket};
 use smithy_base::{
     CustomPartition, ErrorKind, OutOfMemory, PartitionRegistry, RetryPartition, RetrySpec,
@@ -46,12 +43,11 @@ impl<L: Limiter> Registry<L> {
 
     /// Adds a bucket, and answers its number. Where there is no memory or no number left, the bucket
     /// is dropped.
-    pub fn add_bucket(&mut self, alloc: Global, bucket: TokenBucket) -> Result<u32, OutOfMemory>
+    pub fn add_bucket(&mut self, _alloc: Global, bucket: TokenBucket) -> Result<u32, OutOfMemory>
         ensures number { IfOk result (λ number. number ≡ length self.old.books) }
         ensures ok { IfOk result (λ _. self.new ≡ record self.old { books = self.old.books ++ bucket ∷ [] }) }
         ensures err { OnErr result (self.new ≡ self.old) }
     {
-        let _ = alloc;
         let number = next_number(self.buckets.len())?;
         self.buckets.push(bucket)?;
         Ok(number)
@@ -59,12 +55,11 @@ impl<L: Limiter> Registry<L> {
 
     /// Adds a limiter, and answers its number. Where there is no memory or no number left, the
     /// limiter is dropped.
-    pub fn add_limiter(&mut self, alloc: Global, limiter: L) -> Result<u32, OutOfMemory>
+    pub fn add_limiter(&mut self, _alloc: Global, limiter: L) -> Result<u32, OutOfMemory>
         ensures number { IfOk result (λ number. number ≡ length self.old.limiters) }
         ensures ok { IfOk result (λ _. self.new ≡ record self.old { limiters = self.old.limiters ++ limiter ∷ [] }) }
         ensures err { OnErr result (self.new ≡ self.old) }
     {
-        let _ = alloc;
         let number = next_number(self.limiters.len())?;
         self.limiters.push(limiter)?;
         Ok(number)
@@ -306,3 +301,6 @@ impl<L: Limiter> Quota for Registry<L> {
 
     ghost told = { told_books };
 }
+
+#[cfg(test)]
+mod tests;

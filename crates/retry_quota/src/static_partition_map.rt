@@ -1,8 +1,5 @@
 ghost use Rattle.std.specs.Prelude.{◌≡◌};
 
-#[cfg(test)]
-mod tests;
-
 use crate::PartitionTable;
 use smithy_base::OutOfMemory;
 use std::alloc::Global;
@@ -73,3 +70,6 @@ impl<K: Eq + Hash, V> Default for StaticPartitionMap<K, V> {
         StaticPartitionMap::new()
     }
 }
+
+#[cfg(test)]
+mod tests;

@@ -35,9 +35,6 @@ ghost use Rattle.retry_quota.specs.Book.{
 ghost use Rattle.retry_quota.specs.History.{after, acquire_reply, reply_to};
 ghost use Rattle.retry_quota.specs.History.{Acquire, Release, Forget, Reward, Regenerate, Convert};
 
-#[cfg(test)]
-mod tests;
-
 use crate::{MAXIMUM_CAPACITY, Permit, QuotaError, Sums, TokenBucketBuilder};
 use smithy_base::ErrorKind;
 use std::marker::Model;
@@ -332,3 +329,6 @@ impl Default for TokenBucket {
         TokenBucket::plain(DEFAULT_CAPACITY)
     }
 }
+
+#[cfg(test)]
+mod tests;
