@@ -1,0 +1,4 @@
+mod BookLemmas
+mod PlaceLemmas
+mod RegisterLemmas
+mod TableLemmas

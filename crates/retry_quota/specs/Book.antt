@@ -1,0 +1,146 @@
+-- A token bucket as a book of plain sums: what it is, and what each step makes of it.
+use Rattle.std.specs.Prelude.{◌≡◌, ℕ, ◌+◌, ◌-◌, ◌*◌, ◌/◌, ◌%◌, ◌^◌, ◌<◌, ◌≤◌, ◌==◌, ◌&&◌, Bool, not, true, if◌then◌else◌, nat_lt, nat_le, min, Option, None, Some}
+use Rattle.smithy_base.specs.declared.kinds.ErrorKind.{ErrorKind}
+use Rattle.smithy_base.specs.declared.kinds.ErrorKind.TheVariants.{TransientError, ThrottlingError, ServerError, ClientError}
+use Rattle.smithy_base.specs.declared.sums.Sums.{Sums}
+use Rattle.retry_quota.specs.declared.TheConstants.{MAXIMUM_CAPACITY}
+
+-- whole tokens, but for the reward, the rate and the fraction, which are thousandths of a token
+pub record Book : Type 0 where
+  pub capacity : ℕ
+  pub retry_cost : ℕ
+  pub throttling_cost : ℕ
+  pub transient_cost : ℕ
+  pub reward : ℕ
+  pub rate : ℕ
+  pub granted : ℕ
+  pub available : ℕ
+  pub held : ℕ
+  pub forgotten : ℕ
+  pub fraction : ℕ
+  pub last_second : ℕ
+
+-- what no step of a book changes
+pub record Terms : Type 0 where
+  pub capacity : ℕ
+  pub retry_cost : ℕ
+  pub throttling_cost : ℕ
+  pub transient_cost : ℕ
+  pub reward : ℕ
+  pub rate : ℕ
+
+abbrev pub terms_of : Book → Terms
+terms_of b = record {
+  capacity = b.capacity;
+  retry_cost = b.retry_cost;
+  throttling_cost = b.throttling_cost;
+  transient_cost = b.transient_cost;
+  reward = b.reward;
+  rate = b.rate;
+}
+
+-- nothing is lost and nothing is made: each token that was ever there is available, held or forgotten
+abbrev pub IsBalanced : Book → Type 0
+IsBalanced b = b.available + b.held + b.forgotten ≡ b.capacity + b.granted
+
+-- what a bucket of the program keeps
+pub record IsSound (b : Book) : Type 0 where
+  pub bounded : b.capacity ≤ MAXIMUM_CAPACITY
+  pub balanced : IsBalanced b
+  pub counted : b.capacity + b.granted < 2 ^ 64
+
+-- a book that nobody has used yet
+abbrev pub opening : ℕ → ℕ → ℕ → ℕ → ℕ → ℕ → Book
+opening capacity retry_cost throttling_cost transient_cost reward rate = record {
+  capacity = capacity;
+  retry_cost = retry_cost;
+  throttling_cost = throttling_cost;
+  transient_cost = transient_cost;
+  reward = reward;
+  rate = rate;
+  granted = 0;
+  available = capacity;
+  held = 0;
+  forgotten = 0;
+  fraction = 0;
+  last_second = 0;
+}
+
+-- a book of this capacity with the default costs, without a reward and without a refill
+abbrev pub plain_book : ℕ → Book
+plain_book capacity = opening capacity 5 5 10 0 0
+
+abbrev pub cost_of : ErrorKind → Book → ℕ
+cost_of TransientError b = b.transient_cost
+cost_of ThrottlingError b = b.throttling_cost
+cost_of ServerError b = b.retry_cost
+cost_of ClientError b = b.retry_cost
+
+-- the most that a fraction may be
+abbrev pub fraction_cap : Book → ℕ
+fraction_cap b = b.capacity * 1000
+
+-- a fraction rises up to its cap, and one that is there already stays
+abbrev pub raised : ℕ → Book → ℕ
+raised more b = if nat_lt b.fraction (fraction_cap b) then min (b.fraction + more) (fraction_cap b) else b.fraction
+
+-- what the time since the last refill adds; a clock that went back adds nothing
+abbrev pub refill : ℕ → Book → Book
+refill second b =
+    if nat_lt 0 b.rate && not (second == b.last_second)
+    then record b { fraction = raised ((second - b.last_second) * b.rate) b; last_second = second }
+    else b
+
+-- how many of these tokens find room
+abbrev pub fitting : ℕ → Book → ℕ
+fitting tokens b = min tokens (b.capacity - b.available)
+
+-- new tokens come up to the capacity; where the count of all tokens would pass 64 bits, none does
+abbrev pub add : ℕ → Book → Book
+add tokens b =
+    if nat_lt (b.capacity + (b.granted + fitting tokens b)) (2 ^ 64)
+    then record b { available = b.available + fitting tokens b; granted = b.granted + fitting tokens b }
+    else b
+
+-- the whole tokens leave the fraction and are added; what doesn't fit is lost
+abbrev pub convert : Book → Book
+convert b = add (b.fraction / 1000) (record b { fraction = b.fraction % 1000 })
+
+-- what an acquire at this second finds
+abbrev pub ready : ℕ → Book → Book
+ready second b = convert (refill second b)
+
+abbrev pub spend : ℕ → Book → Book
+spend cost b = record b { available = b.available - cost; held = b.held + cost }
+
+-- where this much is held, it is available again; nothing changes otherwise
+abbrev pub release : ℕ → Book → Book
+release amount b =
+    if nat_le amount b.held
+    then record b { held = b.held - amount; available = b.available + amount }
+    else b
+
+-- where this much is held, it is gone for good; nothing changes otherwise
+abbrev pub forget : ℕ → Book → Book
+forget amount b =
+    if nat_le amount b.held
+    then record b { held = b.held - amount; forgotten = b.forgotten + amount }
+    else b
+
+abbrev pub credit : Book → Book
+credit b = record b { fraction = raised b.reward b }
+
+abbrev pub is_full : Book → Bool
+is_full b = nat_le b.capacity b.available
+
+abbrev pub is_empty : Book → Bool
+is_empty b = b.available == 0
+
+abbrev pub sums_of : Book → Sums
+sums_of b = record {
+  capacity = b.capacity;
+  granted = b.granted;
+  available = b.available;
+  held = b.held;
+  forgotten = b.forgotten;
+}

@@ -1,0 +1,5 @@
+pub mod Book
+pub mod History
+pub mod Meaning
+pub mod Place
+pub mod Registers

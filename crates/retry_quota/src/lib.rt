@@ -1,0 +1,27 @@
+//! The retry quota: token buckets that retries are paid from, and the registry that keeps them.
+#![tactic(auto)]
+
+pub mod builder;
+pub mod error;
+pub mod laws;
+pub mod limiter;
+pub mod partition_table;
+pub mod permit;
+pub mod quota;
+pub mod registry;
+pub mod static_partition_map;
+pub mod token_bucket;
+
+pub use builder::TokenBucketBuilder;
+pub use error::QuotaError;
+pub use limiter::{Limiter, OpenLimiter, RequestReason};
+pub use partition_table::PartitionTable;
+pub use permit::Permit;
+pub use quota::Quota;
+pub use registry::Registry;
+pub use smithy_base::{RetryPartition, RetryPartitionBuilder, Sums};
+pub use static_partition_map::StaticPartitionMap;
+pub use token_bucket::TokenBucket;
+
+/// The most tokens that a bucket may have, as its capacity or initial quota.
+pub const MAXIMUM_CAPACITY: u64 = 500_000_000;
