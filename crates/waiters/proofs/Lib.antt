@@ -1,0 +1,7 @@
+pub mod Ceiling
+pub mod Counting
+pub mod Pausing
+pub mod Seeing
+pub mod Spending
+pub mod Turning
+pub mod Walking

@@ -1,0 +1,17 @@
+//! Waiters: a resource is polled until it is in the desired state, with random delays between the
+//! polls that grow, as the Smithy 2.0 specification of waiters says.
+#![tactic(auto)]
+
+mod asking;
+pub mod backoff;
+pub mod orchestrator;
+pub mod outcome;
+mod progress;
+pub mod timers;
+mod verdict;
+
+pub use backoff::{Backoff, delay};
+pub use orchestrator::WaiterOrchestrator;
+pub use outcome::{FinalPoll, WaiterError};
+pub use smithy_base::AcceptorState;
+pub use timers::{PollAnswer, WaiterCall, WaiterTimers};
