@@ -1,5 +1,5 @@
 -- Lists of calls, put together.
-use Rattle.std.proofs.Common.{◌≡◌, ℕ, ◌≢◌, ◌-◌, ◌+◌, zero, suc, List, [], ◌∷◌, ◌++◌, Ok, Err, Some, None, Result, true, false, arith, ap, sym, subst, refl, map, cond}
+use Rattle.std.proofs.Common.{◌≡◌, ℕ, ◌≢◌, ◌≤◌, ◌<◌, ◌^◌, ◌-◌, ◌+◌, zero, suc, List, [], ◌∷◌, ◌++◌, Ok, Err, Some, None, Result, true, false, arith, ap, sym, subst, refl, map, cond}
 use Rattle.std.specs.Prelude.{count_by}
 use Rattle.std.specs.Borrow.{MutBor}
 use Rattle.std.proofs.lemmas.List.Sums.{sum_by-append, sum_by-cons}
@@ -91,29 +91,29 @@ module _ {T O E : Type 0} (makes : T → WaiterCall → T → Type 0) (answers :
 
   -- a poll that the operation answered so
   pub takes-polled : KeepsTimers makes answers →
-      (before after : MutBor T) (number : ℕ) (answer : Answer O E) → answers before number answer after →
+      (before after : MutBor T) (number : ℕ) (answer : Answer O E) → (1 ≤ number) × (number < 2 ^ 32) → answers before number answer after →
       Takes makes answers before.now (polled number answer) after.now
-  takes-polled keeps before after number answer met =
-      (keeps before after number answer met, record { before = before; shows = refl; after = after; leaves = refl; met = met })
+  takes-polled keeps before after number answer numbered met =
+      (keeps before after number answer numbered.0 numbered.1 met, record { before = before; shows = refl; after = after; leaves = refl; met = met })
 
   pub spends-refused : KeepsTimers makes answers →
-      (old : T) (full left number times : ℕ) (refused : OutOfMemory) (before after : MutBor T) → answers before number (Err refused) after →
+      (old : T) (full left number times : ℕ) (refused : OutOfMemory) (before after : MutBor T) → (1 ≤ number) × (number < 2 ^ 32) → answers before number (Err refused) after →
       Spends makes answers old full (unanswered number times) before.now left →
       Spends makes answers old full (unanswered number times ++ (polled number (Err refused) ∷ [])) after.now left
-  spends-refused keeps old full left number times refused before after met asked =
-      spends-append asked (record { handed = (after.now, takes-polled keeps before after number (Err refused) met, refl); spent = omega arith })
+  spends-refused keeps old full left number times refused before after numbered met asked =
+      spends-append asked (record { handed = (after.now, takes-polled keeps before after number (Err refused) numbered met, refl); spent = omega arith })
 
   pub spends-answered : KeepsTimers makes answers →
-      (old : T) (full left number times : ℕ) (result : Result O (SdkError E)) (before after : MutBor T) → answers before number (Ok (Some result)) after →
+      (old : T) (full left number times : ℕ) (result : Result O (SdkError E)) (before after : MutBor T) → (1 ≤ number) × (number < 2 ^ 32) → answers before number (Ok (Some result)) after →
       left ≢ 0 → Spends makes answers old full (unanswered number times) before.now left →
       Spends makes answers old full (unanswered number times ++ (polled number (Ok (Some result)) ∷ [])) after.now (left - 1)
-  spends-answered keeps old full left number times result before after met some asked =
-      spends-append asked (record { handed = (after.now, takes-polled keeps before after number (Ok (Some result)) met, refl); spent = omega arith })
+  spends-answered keeps old full left number times result before after numbered met some asked =
+      spends-append asked (record { handed = (after.now, takes-polled keeps before after number (Ok (Some result)) numbered met, refl); spent = omega arith })
 
   pub spends-pending : KeepsTimers makes answers →
-      (old new : T) (full left number times : ℕ) (before after : MutBor T) → answers before number (Ok None) after → makes after.now Park new →
+      (old new : T) (full left number times : ℕ) (before after : MutBor T) → (1 ≤ number) × (number < 2 ^ 32) → answers before number (Ok None) after → makes after.now Park new →
       left ≢ 0 → Spends makes answers old full (unanswered number times) before.now left →
       Spends makes answers old full (unanswered number (suc times)) new (left - 1)
-  spends-pending keeps old new full left number times before after met parks some asked =
+  spends-pending keeps old new full left number times before after numbered met parks some asked =
       rw (← unanswered-more number times)
-      (spends-append asked (record { handed = (after.now, takes-polled keeps before after number (Ok None) met, (new, parks, refl)); spent = omega arith }))
+      (spends-append asked (record { handed = (after.now, takes-polled keeps before after number (Ok None) numbered met, (new, parks, refl)); spent = omega arith }))

@@ -1,5 +1,5 @@
 -- The calls that a waiter makes of its timers and its operation.
-use Rattle.std.specs.Prelude.{◌≡◌, ℕ, ◌+◌, Bool, true, false, not, List, [], ◌∷◌, Option, None, Some, Result, Ok, Err, count_by}
+use Rattle.std.specs.Prelude.{◌≡◌, ℕ, ◌+◌, ◌≤◌, ◌<◌, ◌^◌, Bool, true, false, not, List, [], ◌∷◌, Option, None, Some, Result, Ok, Err, count_by}
 use Rattle.std.specs.Borrow.{MutBor}
 use Rattle.smithy_base.specs.declared.fault.SdkError.{SdkError}
 use Rattle.smithy_base.specs.declared.memory.OutOfMemory.{OutOfMemory}
@@ -78,8 +78,8 @@ module _ {T O E : Type 0} (makes : T → WaiterCall → T → Type 0) (answers :
   Handed old [] new = old ≡ new
   Handed old (call ∷ calls) new = (mid : T) × Takes old call mid × Handed mid calls new
 
--- The operation keeps the timers' relation.
+-- The operation keeps the timers' relation, at each number that a poll may have.
 abbrev pub KeepsTimers : {T O E : Type 0} → (T → WaiterCall → T → Type 0) → (MutBor T → ℕ → Answer O E → MutBor T → Type 0) → Type 0
 KeepsTimers {T} {O} {E} makes answers =
-    (before after : MutBor T) (number : ℕ) (answer : Answer O E) → answers before number answer after →
+    (before after : MutBor T) (number : ℕ) (answer : Answer O E) → 1 ≤ number → number < 2 ^ 32 → answers before number answer after →
     makes before.now (Poll number (poll_answer answer)) after.now

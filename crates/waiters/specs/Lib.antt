@@ -1,3 +1,4 @@
+pub mod Builder
 pub mod Calls
 pub mod Count
 pub mod Delay

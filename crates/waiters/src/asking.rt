@@ -1,5 +1,5 @@
 //! Asking until there is an answer or the fuel is spent.
-ghost use Rattle.std.specs.Prelude.{◌≡◌, ◌≢◌, ℕ, Ok, true, false, OnErr};
+ghost use Rattle.std.specs.Prelude.{◌≡◌, ◌≢◌, ◌≤◌, ℕ, Ok, true, false, OnErr};
 ghost use Rattle.waiters.specs.Calls.{KeepsTimers};
 ghost use Rattle.waiters.specs.Steps.{Spends, TimersSpend, ask_calls, pause_calls, error_of, sleep_calls};
 
@@ -37,6 +37,7 @@ where
     G: Fn(&mut T, u32) -> Result<Option<Result<O, SdkError<E>>>, OutOfMemory>,
     requires callable { G.IsAlwaysCallable operation.now }
     requires keeps { KeepsTimers T.makes (G.post operation.now) }
+    requires counted { 1 ≤ number }
     ensures calls { (times : ℕ) × Spends T.makes (G.post operation.now) timers.old fuel.old (ask_calls number times result) timers.new fuel.new }
     ensures all_spent { result ≡ Err Stop.Unfinished → fuel.new ≡ 0 }
 {

@@ -29,7 +29,7 @@ pub fn delay(min: u64, max: u64, max_wait: u64, attempt: u32, elapsed: u64, word
 }
 
 /// The delays that a waiter was built with, in nanoseconds.
-#[derive(Clone, Copy, Debug, PartialEq, Eq)]
+#[derive(Clone, Copy)]
 pub struct Backoff {
     /// At least a second.
     pub min_delay: u64,

@@ -4,6 +4,8 @@
 
 mod asking;
 pub mod backoff;
+pub mod builder;
+pub mod error;
 pub mod orchestrator;
 pub mod outcome;
 mod progress;
@@ -11,7 +13,12 @@ pub mod timers;
 mod verdict;
 
 pub use backoff::{Backoff, delay};
+pub use builder::WaiterOrchestratorBuilder;
+pub use error::{BuildError, Part};
 pub use orchestrator::WaiterOrchestrator;
 pub use outcome::{FinalPoll, WaiterError};
 pub use smithy_base::AcceptorState;
 pub use timers::{PollAnswer, WaiterCall, WaiterTimers};
+
+#[cfg(test)]
+mod tests;

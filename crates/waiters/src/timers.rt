@@ -4,7 +4,7 @@ ghost use Rattle.std.specs.Prelude.{◌≡◌};
 use smithy_base::{Timers, TimersCall};
 
 /// What a poll of the operation came to.
-#[derive(Clone, Copy, Debug, PartialEq, Eq)]
+#[derive(Clone, Copy)]
 pub enum PollAnswer {
     /// It answered an output or an error.
     Answered,
@@ -16,7 +16,7 @@ pub enum PollAnswer {
 
 /// A call of a waiter's timers, with what it was handed and what it answered. A poll of the
 /// operation counts as one.
-#[derive(Clone, Copy, Debug, PartialEq, Eq)]
+#[derive(Clone, Copy)]
 pub enum WaiterCall {
     /// The clock or a sleep was asked.
     Timers(TimersCall),
