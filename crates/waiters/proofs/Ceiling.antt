@@ -1,5 +1,5 @@
 -- The greatest attempt whose doubled delay is within the greatest delay, by a logarithm.
-use Rattle.std.proofs.Common.{◌≡◌, ℕ, ◌+◌, ◌-◌, ◌*◌, ◌/◌, ◌^◌, ◌≤◌, ◌<◌, ◌⊎◌, inl, inr, suc, add-one, arith}
+use Rattle.std.proofs.Common.{◌≡◌, ℕ, ◌+◌, ◌-◌, ◌*◌, ◌/◌, ◌^◌, ◌≤◌, ◌<◌, inl, inr, suc, arith}
 use Rattle.std.proofs.lemmas.Bool.{cases_lt}
 use Rattle.std.proofs.Math.Nat.{pow-succ', le-div_iff_mul-le, pow-le-pow_right, mul-le-mul_right, mul-le-mul_left, div-mul-le_self}
 use Rattle.waiters.specs.Delay.{IsCeiling}

@@ -1,9 +1,8 @@
 -- The timers' count over a list of calls.
-use Rattle.std.proofs.Common.{◌≡◌, ℕ, ◌+◌, ◌<◌, ◌≤◌, ◌^◌, List, [], ◌∷◌, true, false, Ok, Err, arith, ap, refl, cond}
+use Rattle.std.proofs.Common.{◌≡◌, ℕ, ◌+◌, ◌<◌, ◌≤◌, ◌^◌, List, [], ◌∷◌, true, false, Ok, Err, arith, ap, cond}
 use Rattle.std.specs.Prelude.{count_by}
 use Rattle.std.specs.Borrow.{MutBor}
 use Rattle.std.proofs.lemmas.List.Sums.{sum_by-cons}
-use Rattle.smithy_base.specs.declared.timers.TimersCall.{TimersCall}
 use Rattle.smithy_base.specs.declared.timers.TimersCall.TheVariants.{Now, Start, Ready, GiveUp}
 use Rattle.waiters.specs.declared.timers.WaiterCall.{WaiterCall}
 use Rattle.waiters.specs.declared.timers.WaiterCall.TheVariants.{Timers, Word, Park, Poll}

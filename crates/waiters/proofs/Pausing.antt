@@ -1,5 +1,5 @@
 -- The calls of a delay.
-use Rattle.std.proofs.Common.{◌≡◌, ℕ, ◌≢◌, ◌+◌, ◌++◌, ◌∷◌, [], Bool, true, false, Ok, Err, Some, arith, refl, cond, zero, suc}
+use Rattle.std.proofs.Common.{◌≡◌, ℕ, ◌≢◌, ◌++◌, ◌∷◌, [], true, false, Ok, Err, Some, arith, refl, cond}
 use Rattle.std.specs.Prelude.{◌==◌}
 use Rattle.std.proofs.lemmas.Bool.Decides.{nat_tests}
 use Rattle.std.proofs.lemmas.List.Sums.{sum_by-cons}
@@ -8,7 +8,7 @@ use Rattle.smithy_base.specs.declared.timers.TimersCall.TheVariants.{Ready, Star
 use Rattle.waiters.specs.declared.timers.WaiterCall.{WaiterCall}
 use Rattle.waiters.specs.declared.timers.WaiterCall.TheVariants.{Timers}
 use Rattle.waiters.specs.Calls.{is_ready_call}
-use Rattle.waiters.specs.Steps.{TimersHanded, TimersSpend}
+use Rattle.waiters.specs.Steps.{TimersSpend}
 use Rattle.waiters.specs.WalkCalls.{delay_calls, unready}
 
 not_zero : (n : ℕ) → n ≢ 0 → (n == 0) ≡ false

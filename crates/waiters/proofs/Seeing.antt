@@ -1,5 +1,5 @@
 -- What the acceptor says of what it is shown.
-use Rattle.std.proofs.Common.{◌≡◌, Result, Ok, Err, Some, Option, subst, sym, refl}
+use Rattle.std.proofs.Common.{◌≡◌, Result, Ok, Err, Some, subst, sym, refl}
 use Rattle.std.specs.Borrow.{Bor}
 use Rattle.smithy_base.specs.declared.acceptor.AcceptorState.{AcceptorState}
 use Rattle.smithy_base.specs.declared.fault.SdkError.{SdkError}

@@ -1,5 +1,5 @@
 -- Lists of calls, put together.
-use Rattle.std.proofs.Common.{◌≡◌, ℕ, ◌≢◌, ◌≤◌, ◌<◌, ◌^◌, ◌-◌, ◌+◌, zero, suc, List, [], ◌∷◌, ◌++◌, Ok, Err, Some, None, Result, true, false, arith, ap, sym, subst, refl, map, cond}
+use Rattle.std.proofs.Common.{◌≡◌, ℕ, ◌≢◌, ◌≤◌, ◌<◌, ◌^◌, ◌-◌, zero, suc, List, [], ◌∷◌, ◌++◌, Ok, Err, Some, None, Result, true, false, arith, ap, sym, subst, refl, map, cond}
 use Rattle.std.specs.Prelude.{count_by}
 use Rattle.std.specs.Borrow.{MutBor}
 use Rattle.std.proofs.lemmas.List.Sums.{sum_by-append, sum_by-cons}

@@ -1,17 +1,15 @@
 -- A turn of the walk, put together from its parts.
-use Rattle.std.proofs.Common.{◌≡◌, ◌≢◌, ℕ, ◌+◌, ◌-◌, ◌<◌, ◌≤◌, ◌⊎◌, inl, inr, List, [], ◌∷◌, ◌++◌, Bool, true, false, Result, Ok, Err, Some, Option, arith, refl, sym, subst, append_assoc, ap, ◌∙◌, min, ◌^◌, length, cond}
-use Rattle.std.specs.Prelude.{◌==◌, ◌||◌, map}
+use Rattle.std.proofs.Common.{◌≡◌, ◌≢◌, ℕ, ◌+◌, ◌-◌, ◌<◌, ◌≤◌, ◌⊎◌, List, [], ◌∷◌, ◌++◌, Bool, true, false, Result, Ok, Err, Some, arith, refl, sym, subst, append_assoc, ap, ◌∙◌, min, ◌^◌, cond}
+use Rattle.std.specs.Prelude.{◌==◌, map}
 use Rattle.std.proofs.Math.Bool.{or-false}
 use Rattle.std.proofs.lemmas.List.Sums.{sum_by-cons}
 use Rattle.std.specs.Borrow.{Bor, MutBor}
 use Rattle.smithy_base.specs.declared.acceptor.AcceptorState.{AcceptorState}
 use Rattle.smithy_base.specs.declared.fault.SdkError.{SdkError}
-use Rattle.smithy_base.specs.declared.memory.OutOfMemory.{OutOfMemory}
 use Rattle.smithy_base.specs.declared.timers.TimersCall.TheVariants.{Now, Start}
 use Rattle.waiters.specs.declared.asking.Stop.{Stop}
 use Rattle.waiters.specs.declared.asking.Stop.TheVariants as stop
 use Rattle.waiters.specs.declared.backoff.Backoff.{Backoff}
-use Rattle.waiters.specs.declared.outcome.FinalPoll.{FinalPoll}
 use Rattle.waiters.specs.declared.outcome.WaiterError.{WaiterError}
 use Rattle.waiters.specs.declared.outcome.WaiterError.TheVariants as end
 use Rattle.waiters.specs.declared.progress.Progress.{Progress}
@@ -20,9 +18,9 @@ use Rattle.waiters.specs.declared.timers.WaiterCall.TheVariants.{Timers, Word}
 use Rattle.waiters.specs.Calls.{Answer, Call, Handed, called, is_ready_call, polled}
 use Rattle.waiters.specs.Delay.{IsDelay}
 use Rattle.waiters.specs.Steps.{GoesOn, Spends, StandsAfter, Stops, TimersSpend, ask_calls, error_of, pause_calls}
-use Rattle.waiters.specs.Walk.{Accepts, End, Ends, EndsAt, EndsBy, IsTurn, Poll, Turn, goes_on, number_after, verdict, zero_used}
+use Rattle.waiters.specs.Walk.{Accepts, End, EndsAt, EndsBy, IsTurn, Poll, Turn, goes_on, number_after, verdict, zero_used}
 use Rattle.waiters.specs.WalkCalls.{delay_calls, ended, unready, poll_calls, poll_refused, polling, sleep_refused, sleeping, unanswered}
-use Rattle.waiters.proofs.Spending.{spends-append, spends-called, timers_spend-append}
+use Rattle.waiters.proofs.Spending.{spends-append, spends-called}
 
 module _ {T O E : Type 0} (backoff : Backoff) (says : Result (Bor O) (Bor E) → AcceptorState → Type 0)
     (makes : T → WaiterCall → T → Type 0) (answers : MutBor T → ℕ → Answer O E → MutBor T → Type 0) where

@@ -1,20 +1,19 @@
 -- The walk, from turn to turn.
-use Rattle.std.proofs.Common.{◌≡◌, ℕ, ◌+◌, ◌<◌, ◌≤◌, ◌^◌, List, [], ◌∷◌, ◌++◌, Bool, true, false, Result, Err, arith, refl, sym, subst, ap, ◌∙◌, cond}
+use Rattle.std.proofs.Common.{◌≡◌, ℕ, ◌+◌, ◌<◌, ◌^◌, List, [], ◌∷◌, ◌++◌, Bool, true, false, Result, arith, refl, sym, subst, ◌∙◌, cond}
 use Rattle.std.specs.Borrow.{Bor, MutBor}
 use Rattle.std.specs.Prelude.{count_by}
-use Rattle.std.proofs.lemmas.List.Sums.{sum_by-append, sum_by-cons}
+use Rattle.std.proofs.lemmas.List.Sums.{sum_by-cons}
 use Rattle.smithy_base.specs.declared.acceptor.AcceptorState.{AcceptorState}
 use Rattle.smithy_base.specs.declared.timers.TimersCall.TheVariants.{Now}
 use Rattle.waiters.specs.declared.backoff.Backoff.{Backoff}
-use Rattle.waiters.specs.declared.outcome.WaiterError.TheVariants as end
 use Rattle.waiters.specs.declared.progress.Progress.{Progress}
 use Rattle.waiters.specs.declared.timers.WaiterCall.{WaiterCall}
 use Rattle.waiters.specs.declared.timers.WaiterCall.TheVariants.{Timers}
-use Rattle.waiters.specs.Calls.{Answer, Call, Handed, asks, called, is_ask, is_unready}
+use Rattle.waiters.specs.Calls.{Answer, Call, called, is_ask, is_unready}
 use Rattle.waiters.specs.Count.{Counts}
 use Rattle.waiters.specs.Steps.{GoesOn, Spends, StandsAfter, Stops}
 use Rattle.waiters.specs.Walk.{End, IsWalk, Turn}
-use Rattle.waiters.specs.WalkCalls.{Waits, turn_calls, walk_calls}
+use Rattle.waiters.specs.WalkCalls.{Waits, walk_calls}
 use Rattle.waiters.proofs.Counting.{counted-handed, unready-le-asks}
 use Rattle.waiters.proofs.Spending.{spends-append}
 use Rattle.waiters.proofs.Turning.{sleeps-handed}

@@ -1,5 +1,5 @@
 -- The calls that a waiter makes of its timers and its operation.
-use Rattle.std.specs.Prelude.{◌≡◌, ℕ, ◌+◌, ◌≤◌, ◌<◌, ◌^◌, Bool, true, false, not, List, [], ◌∷◌, Option, None, Some, Result, Ok, Err, count_by}
+use Rattle.std.specs.Prelude.{◌≡◌, ℕ, ◌≤◌, ◌<◌, ◌^◌, Bool, true, false, not, List, [], ◌∷◌, Option, None, Some, Result, Ok, Err, count_by}
 use Rattle.std.specs.Borrow.{MutBor}
 use Rattle.smithy_base.specs.declared.fault.SdkError.{SdkError}
 use Rattle.smithy_base.specs.declared.memory.OutOfMemory.{OutOfMemory}

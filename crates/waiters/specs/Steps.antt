@@ -1,5 +1,5 @@
 -- The parts of a turn, as the waiter makes them.
-use Rattle.std.specs.Prelude.{◌≡◌, ◌≢◌, ℕ, ◌+◌, Bool, true, List, [], ◌∷◌, ◌++◌, Option, None, Some, Result, Ok, Err, count_by, if◌then◌else◌}
+use Rattle.std.specs.Prelude.{◌≡◌, ℕ, ◌+◌, Bool, true, List, [], ◌∷◌, ◌++◌, Option, None, Some, Result, Ok, Err, count_by, if◌then◌else◌}
 use Rattle.std.specs.Borrow.{Bor, MutBor}
 use Rattle.smithy_base.specs.declared.acceptor.AcceptorState.{AcceptorState}
 use Rattle.smithy_base.specs.declared.fault.SdkError.{SdkError}

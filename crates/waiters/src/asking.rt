@@ -49,10 +49,10 @@ where
             Err(refused) => return Err(Stop::OutOfMemory(refused)),
             Ok(answer) => {
                 *fuel -= 1;
-                if let Some(polled) = answer {
-                    return Ok(polled);
+                match answer {
+                    Some(polled) => return Ok(polled),
+                    None => timers.park(),
                 }
-                timers.park();
             }
         }
     }
@@ -63,16 +63,14 @@ fn slept<T: WaiterTimers>(timers: &mut T, sleep: u64, fuel: &mut u64) -> bool
     ensures calls { (times : ℕ) × TimersSpend T.makes timers.old fuel.old (sleep_calls sleep times result) timers.new fuel.new }
     ensures all_spent { result ≡ false → fuel.new ≡ 0 }
 {
-    loop {
-        if *fuel == 0 {
-            return false;
-        }
+    while *fuel > 0 {
         *fuel -= 1;
         if timers.ready(sleep) {
             return true;
         }
         timers.park();
     }
+    false
 }
 
 /// Sleeps this delay, unless it is 0.

@@ -239,60 +239,56 @@ where
     Ok(waiter.orchestrate(alloc, &mut timers, 1))
 }
 
+/// The delay in seconds of a waiter of at most 120 and 300 seconds, where the middle is drawn.
+fn middle_delay(min: u64, attempt: u32, elapsed: u64) -> Option<u64> {
+    if min == 0 || min > 120 || attempt == 0 || elapsed > 300 {
+        return None;
+    }
+    let nanos = delay(
+        min * SECOND,
+        120 * SECOND,
+        300 * SECOND,
+        attempt,
+        elapsed * SECOND,
+        MIDDLE,
+    );
+    Some(nanos / SECOND)
+}
+
 #[test]
 fn delays_grow_to_the_greatest_and_are_cut(rt: HostRuntime) {
     let table = [
-        (2, 2),
-        (3, 4),
-        (5, 7),
-        (9, 12),
-        (17, 21),
-        (33, 38),
-        (61, 71),
-        (61, 132),
-        (61, 193),
-        (46, 254),
-        (0, 300),
+        (1, 2, 2),
+        (2, 4, 3),
+        (3, 7, 5),
+        (4, 12, 9),
+        (5, 21, 17),
+        (6, 38, 33),
+        (7, 71, 61),
+        (8, 132, 61),
+        (9, 193, 61),
+        (10, 254, 46),
+        (11, 300, 0),
     ];
-    let mut attempt = 1;
-    for (seconds, elapsed) in table {
-        let drawn = delay(
-            2 * SECOND,
-            120 * SECOND,
-            300 * SECOND,
-            attempt,
-            elapsed * SECOND,
-            MIDDLE,
-        );
-        assert_eq!(rt; drawn, seconds * SECOND, "at attempt {attempt}");
-        attempt += 1;
+    for (attempt, elapsed, seconds) in table {
+        assert_eq!(rt; middle_delay(2, attempt, elapsed), Some(seconds));
     }
 }
 
 #[test]
-fn delays_from_a_longer_least(rt: HostRuntime) {
+fn delays_grow_from_a_longer_least(rt: HostRuntime) {
     let table = [
-        (15, 1),
-        (22, 16),
-        (37, 38),
-        (67, 75),
-        (67, 142),
-        (67, 209),
-        (24, 276),
-        (0, 300),
+        (1, 1, 15),
+        (2, 16, 22),
+        (3, 38, 37),
+        (4, 75, 67),
+        (5, 142, 67),
+        (6, 209, 67),
+        (7, 276, 24),
+        (8, 300, 0),
     ];
-    let mut attempt = 1;
-    for (seconds, elapsed) in table {
-        let drawn = delay(
-            15 * SECOND,
-            120 * SECOND,
-            300 * SECOND,
-            attempt,
-            elapsed * SECOND,
-            MIDDLE,
-        );
-        assert_eq!(rt; drawn, seconds * SECOND, "at attempt {attempt}");
-        attempt += 1;
+    for (attempt, elapsed, seconds) in table {
+        assert_eq!(rt; middle_delay(15, attempt, elapsed), Some(seconds));
     }
 }
 

@@ -1,4 +1,4 @@
-use Rattle.std.proofs.Common.{suc, arith}
+use Rattle.std.proofs.Common.{suc}
 use Rattle.waiters.proofs.Spending.{spends-answered, spends-pending, spends-refused}
 use Rattle.waiters.proofs.asking.answered.Goals as goal
 
@@ -20,5 +20,5 @@ pub loop-fuel-preserved : goal.loop-fuel-preserved
 loop-fuel-preserved g c = (
   suc c.loop-fuel.invariant.0,
   spends-pending g.T.WaiterTimers.makes (goal.G-post g c.args.operation.now) c.requires.keeps
-      _ _ _ _ _ _ _ _ (c.requires.counted, c.ranges.number.fits) (rw c.in_default.is at c.in-Ok.ensures) c.park.ensures c.if-fuel-eq0.false c.loop-fuel.invariant.1,
+      _ _ _ _ _ _ _ _ (c.requires.counted, c.ranges.number.fits) (rw c.in-None.is at c.in-Ok.ensures) c.park.ensures c.if-fuel-eq0.false c.loop-fuel.invariant.1,
 )

@@ -1,5 +1,4 @@
-use Rattle.std.proofs.Common.{ℕ}
-use Rattle.waiters.proofs.Pausing.{pauses-not, pauses-open, pauses-over, pauses-refused}
+use Rattle.waiters.proofs.Pausing.{pauses-not, pauses-refused}
 use Rattle.waiters.proofs.asking.paused.Goals as goal
 
 pub returns-then-delay-eq0-clause-calls : goal.returns-then-delay-eq0-clause-calls

@@ -1,4 +1,4 @@
-use Rattle.std.proofs.Common.{◌<◌, arith}
+use Rattle.std.proofs.Common.{arith}
 use Rattle.waiters.proofs.Ceiling.{is_ceiling-log}
 use Rattle.waiters.proofs.backoff.ceiling.Goals as goal
 

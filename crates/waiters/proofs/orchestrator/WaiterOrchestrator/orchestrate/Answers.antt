@@ -1,4 +1,4 @@
-use Rattle.std.proofs.Common.{◌≡◌, ◌∙◌, refl}
+use Rattle.std.proofs.Common.{◌∙◌, refl}
 use Rattle.waiters.proofs.Walking.{along-start, along-turn, waits-stopped}
 use Rattle.waiters.proofs.orchestrator.WaiterOrchestrator.orchestrate.Goals as goal
 

@@ -1,4 +1,4 @@
-use Rattle.std.proofs.Common.{◌≡◌, inl, inr, ◌∙◌, ap, refl}
+use Rattle.std.proofs.Common.{inl, inr, ◌∙◌, ap, refl}
 use Rattle.waiters.specs.declared.progress.Progress.{Progress}
 use Rattle.waiters.specs.Walk.{Poll}
 use Rattle.waiters.proofs.Turning.{goes_on-paused, sleeps-handed, spends-poll, stops-asking, stops-by, stops-exceeded, stops-pausing}
