@@ -1,5 +1,6 @@
 pub mod Ceiling
 pub mod Counting
+pub mod LastCalls
 pub mod Pausing
 pub mod Seeing
 pub mod Spending

@@ -41,6 +41,24 @@ pub struct Backoff {
     ghost in_order: { min_delay ≤ max_delay },
 }
 
+impl Backoff {
+    /// How long to wait before the poll after this attempt.
+    pub fn delay(&self, attempt: u32, elapsed: u64, word: u64) -> u64
+        requires { 1 ≤ attempt }
+        ensures value { IsDelay self.now.min_delay self.now.max_delay self.now.max_wait attempt elapsed word result }
+        ensures within { result ≤ self.now.max_wait - elapsed }
+    {
+        delay(
+            self.min_delay,
+            self.max_delay,
+            self.max_wait,
+            attempt,
+            elapsed,
+            word,
+        )
+    }
+}
+
 /// The last attempt before which doubling stays within `max`.
 fn ceiling(min: u64, max: u64) -> u32
     requires a_second { SECOND ≤ min }

@@ -8,7 +8,7 @@ ghost use Rattle.waiters.specs.WalkCalls.{Waits};
 use crate::asking::{answered, paused};
 use crate::progress::Progress;
 use crate::verdict::{end_of, state_of};
-use crate::{Backoff, FinalPoll, WaiterError, WaiterTimers, delay};
+use crate::{Backoff, FinalPoll, WaiterError, WaiterTimers};
 use smithy_base::{AcceptorState, OutOfMemory, SdkError};
 use std::alloc::Global;
 
@@ -85,27 +85,15 @@ impl<F, G> WaiterOrchestrator<F, G> {
         if let Some(ending) = end_of(polled, state) {
             return Some(ending);
         }
-        let Backoff {
-            min_delay,
-            max_delay,
-            max_wait,
-        } = self.backoff;
-        if progress.zero_used || elapsed > max_wait {
+        if progress.zero_used || elapsed > self.backoff.max_wait {
             return Some(Err(WaiterError::ExceededMaxWait {
-                max_wait,
+                max_wait: self.backoff.max_wait,
                 elapsed,
                 poll_count: progress.number,
             }));
         }
         let word = timers.word();
-        let delay = delay(
-            min_delay,
-            max_delay,
-            max_wait,
-            progress.number,
-            elapsed,
-            word,
-        );
+        let delay = self.backoff.delay(progress.number, elapsed, word);
         if let Err(stop) = paused(alloc, timers, delay, &mut progress.fuel) {
             return Some(Err(stop.into_error()));
         }

@@ -3,7 +3,7 @@ use Rattle.waiters.specs.declared.progress.Progress.{Progress}
 use Rattle.waiters.specs.Walk.{Poll}
 use Rattle.waiters.proofs.Turning.{goes_on-paused, sleeps-handed, spends-poll, stops-asking, stops-by, stops-exceeded, stops-pausing}
 use Rattle.waiters.proofs.orchestrator.WaiterOrchestrator.turn.Goals as goal
-use Rattle.waiters.proofs.orchestrator.WaiterOrchestrator.turn.Goals.{then-progress-via-then-progress, then-progress-via-else-progress+then-elapsed-max_wait}
+use Rattle.waiters.proofs.orchestrator.WaiterOrchestrator.turn.Goals.{then-progress-via-then-progress, then-progress-via-else-progress+then-elapsed-self}
 
 pub returns-in-Err : goal.returns-in-Err
 returns-in-Err g c before stands =
@@ -28,11 +28,11 @@ returns-then-progress g c before stands =
           before c.args.progress.now c.then-progress.progress stands c.args.timers.now c.args.timers.now c.now.new.self poll _ _ _
           (ap (λ (p : Progress). p.number) w.progress-is) c.saturating_sub-elapsed.ensures (ap (λ (p : Progress). p.fuel) w.progress-is)
           c.state_of-state.ensures c.in_default.ensures (inl w.if-progress.true) asked
-      | then-progress-via-else-progress+then-elapsed-max_wait w ↦
+      | then-progress-via-else-progress+then-elapsed-self w ↦
           stops-exceeded c.args.self.now.backoff (goal.F-post g c.args.self.now.acceptor) g.T.WaiterTimers.makes (goal.G-post g c.args.self.now.operation)
           before c.args.progress.now c.then-progress.progress stands c.args.timers.now c.args.timers.now c.now.new.self poll _ _ _
           (ap (λ (p : Progress). p.number) w.progress-is) c.saturating_sub-elapsed.ensures (ap (λ (p : Progress). p.fuel) w.progress-is)
-          c.state_of-state.ensures c.in_default.ensures (inr w.if-elapsed-max_wait.true) asked
+          c.state_of-state.ensures c.in_default.ensures (inr w.if-elapsed-self.true) asked
     ]
 
 pub paused-requires : goal.paused-requires
@@ -47,7 +47,7 @@ returns-in-Err-paused g c before stands =
     stops-pausing c.args.self.now.backoff (goal.F-post g c.args.self.now.acceptor) g.T.WaiterTimers.makes (goal.G-post g c.args.self.now.operation)
     before c.args.progress.now _ stands c.args.timers.now c.now.new.self _ c.in-Err-paused.stop _ c.into_error-in-Err-paused.ensures poll c.word-word.result c.delay-delay.result
     c.in-Err-paused.ensures.calls.0 c.in-Err-paused.ensures.calls.1 c.word-word.new.self c.answered.new.fuel
-    c.state_of-state.ensures c.in_default.ensures c.if-progress.false (rw c.saturating_sub-elapsed.ensures at c.if-elapsed-max_wait.false)
+    c.state_of-state.ensures c.in_default.ensures c.if-progress.false (rw c.saturating_sub-elapsed.ensures at c.if-elapsed-self.false)
     (rw c.saturating_sub-elapsed.ensures at c.delay-delay.ensures.value) c.in-Err-paused.ensures.some_delay asked c.word-word.ensures
     c.in-Err-paused.ensures.calls.2 c.in-Err-paused.ensures.all_spent
 
@@ -59,6 +59,6 @@ returns g c before stands =
     goes_on-paused c.args.self.now.backoff (goal.F-post g c.args.self.now.acceptor) g.T.WaiterTimers.makes (goal.G-post g c.args.self.now.operation)
     before c.args.progress.now _ stands c.args.timers.now c.now.new.self _ poll c.word-word.result c.delay-delay.result
     h.calls.0 h.calls.1 c.word-word.new.self c.answered.new.fuel
-    c.state_of-state.ensures c.in_default.ensures c.if-progress.false (rw c.saturating_sub-elapsed.ensures at c.if-elapsed-max_wait.false)
+    c.state_of-state.ensures c.in_default.ensures c.if-progress.false (rw c.saturating_sub-elapsed.ensures at c.if-elapsed-self.false)
     (rw c.saturating_sub-elapsed.ensures at c.delay-delay.ensures.value) asked c.word-word.ensures h.calls.2
     refl c.saturating_add-progress.ensures refl
