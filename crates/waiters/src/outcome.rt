@@ -1,0 +1,31 @@
+//! What a waiter ends with.
+
+use smithy_base::SdkError;
+
+/// The poll that ended a waiter: an output, or an error of the operation's model.
+#[derive(Debug, Drop)]
+pub struct FinalPoll<O, E> {
+    pub result: Result<O, E>,
+}
+
+/// Why a waiter ended without success.
+#[derive(Debug, Drop)]
+pub enum WaiterError<O, E> {
+    /// A poll failed with an error that isn't of the operation's model, or that no acceptor
+    /// matched.
+    OperationFailed(SdkError<E>),
+    /// An acceptor said that the resource can't come into the desired state any more.
+    FailureState(FinalPoll<O, E>),
+    /// The longest wait is over. Times are in nanoseconds.
+    ExceededMaxWait {
+        max_wait: u64,
+        /// From the waiter's start to its last poll.
+        elapsed: u64,
+        /// How many polls were answered, at most `u32::MAX`.
+        poll_count: u32,
+    },
+    /// The fuel was spent before the walk ended.
+    Unfinished,
+    /// An allocation was refused.
+    OutOfMemory,
+}
