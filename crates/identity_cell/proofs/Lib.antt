@@ -1,0 +1,4 @@
+pub mod CellLemmas
+pub mod HistoryLemmas
+pub mod Lawful
+pub mod RunLemmas

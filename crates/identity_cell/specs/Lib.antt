@@ -1,0 +1,4 @@
+pub mod Cell
+pub mod History
+pub mod Log
+pub mod Runs

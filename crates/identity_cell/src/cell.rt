@@ -1,0 +1,297 @@
+ghost use Rattle.std.specs.Prelude.{◌≡◌, ◌+◌, ◌<◌, ◌≤◌, ◌||◌, MatchBool, IfOk, OnOk, OnErr};
+
+use crate::{ClearReply, Clearing, Event, EventLog};
+use smithy_base::OutOfMemory;
+use std::alloc::Global;
+use std::marker::Model;
+
+/// What `CellCore::begin` answers.
+#[derive(Drop)]
+pub enum Begin<T> {
+    /// A copy of the value in the cell, whether or not it has expired.
+    Value(T),
+    /// The caller is to load, under this ticket.
+    Load(u64),
+    /// Another caller loads.
+    NotYet,
+}
+
+/// What `CellCore::clear` answers.
+#[derive(Drop)]
+pub enum Cleared<T> {
+    /// A copy of the value in the cell, which hasn't expired.
+    Value(T),
+    /// There is no value for this caller.
+    None,
+    /// A caller loads.
+    NotYet,
+}
+
+/// What a cell holds.
+#[derive(Drop)]
+pub enum CellState<T> {
+    Empty,
+    /// The load of this ticket is open.
+    Loading(u64),
+    /// The value that the load of a ticket stored, and the moment in ns at which it expires.
+    Full(u64, T, u64),
+}
+
+/// A cell for one value that is loaded when it is asked for, by one caller at a time, with all
+/// events that ever happened to it.
+#[derive(Drop)]
+pub struct CellCore<T> {
+    buffer: u64,
+    state: CellState<T>,
+    log: EventLog,
+}
+
+impl<T> Model for CellCore<T> {
+    ghost use Rattle.identity_cell.specs.Cell.{Cell, cell_of, HoldsOf};
+
+    ghost Value = { Cell T };
+
+    ghost view = { λ c. cell_of c.buffer c.state c.log };
+
+    ghost invariant = { λ c. HoldsOf (cell_of c.buffer c.state c.log) c.log.room };
+}
+
+/// Whether a value counts as expired: from the buffer before its expiry on.
+fn is_expired(expiry: u64, buffer: u64, now: u64) -> bool
+    ensures { MatchBool result (expiry ≤ now + buffer) (now + buffer < expiry) }
+{
+    u128::from(now) + u128::from(buffer) >= u128::from(expiry)
+}
+
+impl<T: Clone + Drop> CellCore<T> {
+    ghost use Rattle.identity_cell.specs.History.{begun_in};
+    ghost use Rattle.identity_cell.specs.Cell.{empty_cell, IsReplayed, after_begin, AnswersBegin, after_end, after_clear, reply_in, AnswersClear, is_not_yet, is_open};
+
+    /// An empty cell to which nothing happened yet. A value counts as expired from so many ns
+    /// before its expiry on. It takes no memory.
+    pub fn new(buffer: u64) -> CellCore<T>
+        ensures { result ≡ empty_cell buffer }
+    {
+        CellCore {
+            buffer,
+            state: CellState::Empty,
+            log: EventLog::new(),
+        }
+    }
+
+    /// Asks for the value. An empty cell has the caller load it, a full one gives a copy of what it
+    /// has without a look at the expiry. An `Err` leaves the cell as it was.
+    pub fn begin(&mut self, alloc: Global) -> Result<Begin<T>, OutOfMemory>
+        ensures event { OnOk result (self.new ≡ after_begin self.old) }
+        ensures answer { IfOk result (AnswersBegin T.is_clone self.old.state (begun_in self.old.events)) }
+        ensures err { OnErr result (self.new ≡ self.old) }
+    {
+        match &self.state {
+            CellState::Empty => {
+                self.log.reserve(alloc, 2)?;
+                let ticket = self.log.begun();
+                self.log.push(Event::Begin(ticket));
+                self.state = CellState::Loading(ticket);
+                Ok(Begin::Load(ticket))
+            }
+            CellState::Loading(_) => {
+                self.log.reserve(alloc, 2)?;
+                self.log.push(Event::Wait);
+                Ok(Begin::NotYet)
+            }
+            CellState::Full(ticket, value, _) => {
+                let copy = value.clone()?;
+                let event = Event::Hit(*ticket);
+                self.log.reserve(alloc, 1)?;
+                self.log.push(event);
+                Ok(Begin::Value(copy))
+            }
+        }
+    }
+
+    /// The load of this ticket gave this value, which expires at this moment in ns. Where that load
+    /// isn't open, nothing changes.
+    pub fn done(&mut self, ticket: u64, value: T, expiry: u64)
+        ensures { self.new ≡ after_end self.old ticket (CellState.Full ticket value expiry) (Event.Done ticket expiry) }
+    {
+        if self.is_open(ticket) {
+            self.log.push(Event::Done(ticket, expiry));
+            self.state = CellState::Full(ticket, value, expiry);
+        }
+    }
+
+    /// The load of this ticket failed. Where that load isn't open, nothing changes.
+    pub fn failed(&mut self, ticket: u64)
+        ensures { self.new ≡ after_end self.old ticket CellState.Empty (Event.Failed ticket) }
+    {
+        if self.is_open(ticket) {
+            self.log.push(Event::Failed(ticket));
+            self.state = CellState::Empty;
+        }
+    }
+
+    /// The caller that loads under this ticket gives up. Where that load isn't open, nothing
+    /// changes.
+    pub fn abandon(&mut self, ticket: u64)
+        ensures { self.new ≡ after_end self.old ticket CellState.Empty (Event.Dropped ticket) }
+    {
+        if self.is_open(ticket) {
+            self.log.push(Event::Dropped(ticket));
+            self.state = CellState::Empty;
+        }
+    }
+
+    /// Asks for the value at a moment in ns, where it hasn't expired. An expired value is removed. A
+    /// caller that was ever told to wait gets no value any more, and the cell keeps it. An `Err`
+    /// leaves the cell and the caller as they were.
+    pub fn clear(
+        &mut self,
+        alloc: Global,
+        now: u64,
+        state: &mut Clearing,
+    ) -> Result<Cleared<T>, OutOfMemory>
+        ensures event { OnOk result (self.new ≡ after_clear self.old now state.old) }
+        ensures answer { IfOk result (AnswersClear T.is_clone self.old.state (reply_in self.old.buffer self.old.state now state.old)) }
+        ensures waited { OnOk result (state.new ≡ (state.old || is_not_yet (reply_in self.old.buffer self.old.state now state.old))) }
+        ensures err { OnErr result ((self.new ≡ self.old) × (state.new ≡ state.old)) }
+    {
+        let waited = state.has_waited();
+        match &self.state {
+            CellState::Empty => {
+                self.log.reserve(alloc, 1)?;
+                self.log.push(Event::Clear(now, waited, ClearReply::None));
+                Ok(Cleared::None)
+            }
+            CellState::Loading(_) => {
+                self.log.reserve(alloc, 2)?;
+                self.log.push(Event::Clear(now, waited, ClearReply::NotYet));
+                state.wait();
+                Ok(Cleared::NotYet)
+            }
+            CellState::Full(_, value, expiry) => {
+                if is_expired(*expiry, self.buffer, now) {
+                    self.log.reserve(alloc, 1)?;
+                    self.log.push(Event::Clear(now, waited, ClearReply::None));
+                    self.state = CellState::Empty;
+                    Ok(Cleared::None)
+                } else if waited {
+                    self.log.reserve(alloc, 1)?;
+                    self.log.push(Event::Clear(now, waited, ClearReply::None));
+                    Ok(Cleared::None)
+                } else {
+                    let copy = value.clone()?;
+                    self.log.reserve(alloc, 1)?;
+                    self.log.push(Event::Clear(now, waited, ClearReply::Kept));
+                    Ok(Cleared::Value(copy))
+                }
+            }
+        }
+    }
+
+    /// All that happened to the cell, in its order. It is a legal history, and the cell stands where
+    /// it leads.
+    pub fn events(&self) -> &[Event]
+        ensures events { result.now ≡ self.now.events }
+        ensures legal { IsReplayed self.now }
+    {
+        self.log.as_slice()
+    }
+
+    /// Whether the load of this ticket is open.
+    pub fn is_open(&self, ticket: u64) -> bool
+        ensures { result ≡ is_open self.now.state ticket }
+    {
+        match &self.state {
+            CellState::Loading(open) => ticket == *open,
+            _ => false,
+        }
+    }
+}
+
+#[cfg(test)]
+mod tests {
+    use super::*;
+    use std::test::Fail;
+
+    const SECOND: u64 = 1_000_000_000;
+
+    /// A cell with a buffer of 10 s in which a load of 7, which expires at 100 s, has ended.
+    fn loaded(alloc: Global) -> Result<CellCore<u64>, OutOfMemory> {
+        let mut cell = CellCore::new(10 * SECOND);
+        cell.begin(alloc)?;
+        cell.done(0, 7, 100 * SECOND);
+        Ok(cell)
+    }
+
+    #[test]
+    fn a_value_expires_the_buffer_before_its_expiry(rt: HostRuntime) -> Result<(), Fail> {
+        for (now, want) in [(1000, None), (90, None), (10, Some(7)), (500, None)] {
+            let mut cell = loaded(rt.alloc())?;
+            let answer = cell.clear(rt.alloc(), now * SECOND, &mut Clearing::new())?;
+            let got = match answer {
+                Cleared::Value(value) => Some(value),
+                _ => None,
+            };
+            assert_eq!(rt; got, want, "at {now} s");
+            assert_eq!(rt; cell.events().len(), 3);
+        }
+        Ok(())
+    }
+
+    #[test]
+    fn a_second_caller_waits_and_then_has_the_value(rt: HostRuntime) -> Result<(), Fail> {
+        let mut cell = CellCore::new(10 * SECOND);
+        let mut waiter = Clearing::new();
+        let none = cell.clear(rt.alloc(), 100 * SECOND, &mut waiter)?;
+        assert!(rt; matches!(none, Cleared::None));
+        let first = cell.begin(rt.alloc())?;
+        assert!(rt; matches!(first, Begin::Load(0)));
+        let second = cell.begin(rt.alloc())?;
+        assert!(rt; matches!(second, Begin::NotYet));
+        let told = cell.clear(rt.alloc(), 10 * SECOND, &mut waiter)?;
+        assert!(rt; matches!(told, Cleared::NotYet));
+        cell.done(1, 8, 100 * SECOND);
+        cell.done(0, 7, 100 * SECOND);
+        let hit = cell.begin(rt.alloc())?;
+        assert!(rt; matches!(hit, Begin::Value(7)));
+        let late = cell.clear(rt.alloc(), 10 * SECOND, &mut waiter)?;
+        assert!(rt; waiter.has_waited());
+        assert!(rt; matches!(late, Cleared::None));
+        let want = [
+            Event::Clear(100 * SECOND, false, ClearReply::None),
+            Event::Begin(0),
+            Event::Wait,
+            Event::Clear(10 * SECOND, false, ClearReply::NotYet),
+            Event::Done(0, 100 * SECOND),
+            Event::Hit(0),
+            Event::Clear(10 * SECOND, true, ClearReply::None),
+        ];
+        assert_eq!(rt; cell.events(), want.as_slice());
+        Ok(())
+    }
+
+    #[test]
+    fn a_load_that_fails_or_is_dropped_leaves_the_next_to_load(
+        rt: HostRuntime,
+    ) -> Result<(), Fail> {
+        let mut cell: CellCore<u64> = CellCore::new(0);
+        cell.begin(rt.alloc())?;
+        cell.failed(0);
+        let second = cell.begin(rt.alloc())?;
+        assert!(rt; matches!(second, Begin::Load(1)));
+        cell.abandon(0);
+        assert!(rt; cell.is_open(1));
+        cell.abandon(1);
+        let third = cell.begin(rt.alloc())?;
+        assert!(rt; matches!(third, Begin::Load(2)));
+        let want = [
+            Event::Begin(0),
+            Event::Failed(0),
+            Event::Begin(1),
+            Event::Dropped(1),
+            Event::Begin(2),
+        ];
+        assert_eq!(rt; cell.events(), want.as_slice());
+        Ok(())
+    }
+}

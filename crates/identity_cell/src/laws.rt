@@ -1,0 +1,31 @@
+//! What holds of every cell, whatever calls were made.
+
+ghost use Rattle.std.specs.Prelude.{◌≡◌, ℕ, ◌≤◌, Some, List, [], ◌∷◌, ◌++◌, length};
+ghost use Rattle.identity_cell.specs.History.{IsLegal, replay, Empty};
+ghost use Rattle.identity_cell.specs.Cell.{Cell, empty_cell, IsReplayed};
+ghost use Rattle.identity_cell.specs.Runs.{open_loads, Call, Makes, Run, answered, WasStored};
+ghost use Rattle.identity_cell.specs.declared.event.Event.{Event};
+ghost use Rattle.identity_cell.specs.declared.event.Event.TheVariants.{Dropped};
+
+/// In a legal history at most one load is open at any place.
+pub fn one_open_load()
+    ensures { (buffer : ℕ) (before later : List Event) → IsLegal buffer (before ++ later) → length (open_loads before) ≤ 1 }
+{}
+
+/// Where the open load was dropped, nothing is in the cell.
+pub fn dropped_is_empty()
+    ensures { (buffer : ℕ) (before : List Event) (ticket : ℕ) → IsLegal buffer (before ++ Dropped ticket ∷ []) → replay buffer (before ++ Dropped ticket ∷ []) ≡ Some Empty }
+{}
+
+/// Whatever calls were made of a new cell, its history is legal and leads to its state.
+pub fn runs_are_legal<T: Clone>()
+    ensures { (buffer : ℕ) (calls : List (Call T)) (cell : Cell T) → Run T.is_clone (empty_cell buffer) calls cell → IsReplayed cell }
+{}
+
+/// Whatever calls were made of a new cell, a value that the next one answers is a copy of the one
+/// with which `done` ended the open load, for the ticket at which the cell stands.
+pub fn answered_value_was_stored<T: Clone>()
+    ensures { (buffer : ℕ) (calls : List (Call T)) (next : Call T) (cell after : Cell T) (copy : T) →
+        Run T.is_clone (empty_cell buffer) calls cell → Makes T.is_clone cell next after → answered next ≡ Some copy →
+        WasStored T.is_clone (empty_cell buffer) calls cell copy }
+{}

@@ -1,0 +1,7 @@
+use Rattle.std.proofs.Common.{refl}
+use Rattle.stream_guard.specs.Report.{Pending}
+use Rattle.stream_guard.proofs.LogLemmas.{pushed}
+use Rattle.stream_guard.proofs.logs.ThroughputLogs.push_pending.Goals as goal
+
+pub returns-clause-kept : goal.returns-clause-kept
+returns-clause-kept c came kept = pushed c.args.self.now c.push.ensures.0 c.push.new.self came (Pending c.args.now) _ (λ bin. refl) kept c.push.ensures.1 c.push.ensures.2

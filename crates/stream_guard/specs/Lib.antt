@@ -1,0 +1,7 @@
+pub mod Bin
+pub mod Judged
+pub mod Logs
+pub mod Options
+pub mod Rate
+pub mod RateOrder
+pub mod Report

@@ -1,0 +1,15 @@
+//! Whether a stream stalls: its throughput over a window of time, as a log of what was polled and
+//! transferred reports it.
+#![tactic(auto)]
+
+pub mod bin;
+pub mod logs;
+pub mod options;
+pub mod report;
+pub mod throughput;
+
+pub use bin::{Bin, BinLabel};
+pub use logs::{ThroughputLogs, WindowTooShort};
+pub use options::{MinimumThroughputBodyOptions, MinimumThroughputBodyOptionsBuilder};
+pub use report::ThroughputReport;
+pub use throughput::Throughput;
