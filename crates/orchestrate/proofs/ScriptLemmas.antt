@@ -1,0 +1,46 @@
+-- The default answers fit.
+use Rattle.std.proofs.Common.{Bool, true, ℕ, zero, suc, ◌+◌, ◌<◌, List, [], ◌∷◌, ◌++◌, length, drop, ◌≡◌, refl, ap, ◌∙◌, subst, arith, add-one}
+use Rattle.run_grammar.specs.declared.kind.Kind.{Kind}
+use Rattle.run_grammar.specs.declared.kind.Kind.TheVariants.{Configure, Hook, Serialize, Load, Initial, Start, Wait, Choose, Endpoint, Apply, Sign, Transmit, Stream, Body, Deserialize, Decide, Abandon, Park}
+use Rattle.run_grammar.specs.Fits.{fits}
+use Rattle.run_grammar.specs.declared.answer.Entry.{Entry}
+use Rattle.run_grammar.specs.Entry.{kind_of}
+use Rattle.orchestrate.specs.declared.script.ScriptAnswer.{ScriptAnswer}
+use Rattle.orchestrate.specs.Script.{default_for, left_by, Replies, Spelled}
+
+pub default_fits : (k : Kind) → fits k (default_for k) ≡ true
+unfolding fits
+default_fits (Configure c) = refl
+default_fits (Hook h) = refl
+default_fits Serialize = refl
+default_fits Load = refl
+default_fits Initial = refl
+default_fits (Start r) = refl
+default_fits (Wait r) = refl
+default_fits Choose = refl
+default_fits Endpoint = refl
+default_fits Apply = refl
+default_fits Sign = refl
+default_fits Transmit = refl
+default_fits Stream = refl
+default_fits Body = refl
+default_fits Deserialize = refl
+default_fits Decide = refl
+default_fits (Abandon a) = refl
+default_fits Park = refl
+
+-- one more entry
+pub spelled_more : (xs ys zs : List ScriptAnswer) (l : List Entry) (e : Entry) (taken : Bool) → zs ≡ left_by taken ys → Spelled xs l ys → Replies ys (kind_of e) e.answer taken →
+    Spelled xs (l ++ e ∷ []) zs
+spelled_more xs ys zs [] e taken f h r =
+    (taken, subst (λ vs. Replies vs (kind_of e) e.answer taken) h r, f ∙ ap (λ vs. left_by taken vs) h)
+spelled_more xs ys zs (x ∷ l) e taken f (u, q, h) r = (u, q, spelled_more (left_by u xs) ys zs l e taken f h r)
+
+left_at : (n : ℕ) (xs : List ScriptAnswer) → n < length xs → drop (suc n) xs ≡ left_by true (drop n xs)
+left_at n [] h = absurd (omega arith)
+left_at zero (x ∷ xs) h = refl
+left_at (suc n) (x ∷ xs) h = left_at n xs (omega arith)
+
+-- what is left once the next answer was taken
+pub left-drop : (n : ℕ) (xs : List ScriptAnswer) → n < length xs → drop (n + 1) xs ≡ left_by true (drop n xs)
+left-drop n xs h = rw add-one (left_at n xs h)

@@ -1,0 +1,105 @@
+-- What an Invocation stands for.
+use Rattle.std.specs.Prelude.{ℕ, length, ◌≤◌, Bool, true, false, Option, None, Some, cond, List, [], ◌∷◌, ◌++◌, ◌≡◌, ◌⊎◌}
+use Rattle.run_grammar.specs.declared.kind.Role.TheVariants.{Attempt, Operation}
+use Rattle.run_grammar.specs.declared.kind.Kind.{Kind}
+use Rattle.run_grammar.specs.declared.kind.Kind.TheVariants as kinds
+use Rattle.smithy_base.specs.declared.kinds.StopPoint.{StopPoint}
+use Rattle.orchestrate.specs.declared.point.Point.{Point}
+use Rattle.orchestrate.specs.declared.point.Point.TheVariants.{AtReadBeforeAttempt, AtChoose, AtEndpoint, AtApply, AtModifyBeforeSigning, AtReadBeforeSigning, AtSign, AtReadAfterSigning, AtModifyBeforeTransmit, AtReadBeforeTransmit, AtTransmit, AtReadAfterTransmit, AtModifyBeforeDeserialization, AtReadBeforeDeserialization, AtStream, AtBody, AtDeserialize, AtReadAfterDeserialization, AtCutModifyBeforeAttemptCompletion, AtConfigureClient, AtHookClient, AtConfigureOperation, AtHookOperation, AtConfigureFinal, AtStartOperationFailed, AtStartOperation, AtCutReadAfterAttempt, AtModifyBeforeCompletion, AtReadAfterExecution}
+use Rattle.orchestrate.specs.declared.stage.Armed.{Armed}
+use Rattle.orchestrate.specs.declared.stage.Place.{Place}
+use Rattle.run_grammar.specs.declared.answer.Entry.{Entry}
+use Rattle.orchestrate.specs.declared.stage.Waiting.{Waiting}
+use Rattle.orchestrate.specs.declared.stage.Waiting.TheVariants.{NotWaiting, ForAttempt, ForOperation, ForPark, CutByAttempt, CutByOperation}
+use Rattle.orchestrate.specs.declared.stage.Stage.{Stage}
+use Rattle.orchestrate.specs.declared.invocation.Invocation.{Invocation}
+use Rattle.run_grammar.specs.Entry.{kind_of, pending, abandon_of}
+use Rattle.run_grammar.specs.Fits.{fits}
+use Rattle.run_grammar.specs.declared.answer.Answer.{Answer}
+use Rattle.run_grammar.specs.Standing.{State, standing, WellHanded}
+use Rattle.run_grammar.specs.Grammar.{run}
+use Rattle.run_grammar.specs.Machine.{Position, Whole, Asking, begin, after, Path}
+use Rattle.run_grammar.specs.Machine.{Waiting as Waits, Cutting}
+use Rattle.orchestrate.specs.Points.{kind_at, left_at, scope_at, operation_scope, here, next_point, finishing_at, settling_at}
+use Rattle.run_grammar.specs.Laws.{EachFits, IsWhole, Begins}
+use Rattle.run_grammar.specs.Entry.{entry}
+use Rattle.run_grammar.specs.declared.question.Question.{Question}
+use Rattle.run_grammar.specs.declared.answer.Answer.TheVariants.{NoMemory}
+use Rattle.run_grammar.specs.declared.standing.Standing.{Standing}
+use Rattle.orchestrate.specs.declared.invocation.Step.{Step}
+use Rattle.orchestrate.specs.declared.invocation.Step.TheVariants.{Asked, Ended}
+
+abbrev pub waiting_at : StopPoint → Armed → Point → Waiting → Position
+waiting_at stop m p NotWaiting = Asking (kind_at p) (scope_at m p) (left_at stop m p)
+waiting_at stop m p ForAttempt = Waits (kind_at p) (scope_at m p) (Attempt ∷ operation_scope m) (left_at stop m p)
+waiting_at stop m p ForOperation = Waits (kind_at p) (scope_at m p) (Operation ∷ []) (left_at stop m p)
+waiting_at stop m p ForPark = Waits (kind_at p) (scope_at m p) [] (left_at stop m p)
+waiting_at stop m p CutByAttempt = Cutting (kind_at p) Attempt (left_at stop m p)
+waiting_at stop m p CutByOperation = Cutting (kind_at p) Operation (left_at stop m p)
+
+abbrev pub position_of : StopPoint → Armed → Option Point → Waiting → Position
+position_of stop m None w = Whole
+position_of stop m (Some p) w = waiting_at stop m p w
+
+abbrev pub stage_position : StopPoint → Stage → Position
+stage_position stop g = position_of stop g.place.armed g.place.point g.waiting
+
+-- the question of a point
+abbrev pub asks_at : Point → Waiting → Kind
+asks_at p NotWaiting = kind_at p
+asks_at p ForAttempt = kinds.Wait Attempt
+asks_at p ForOperation = kinds.Wait Operation
+asks_at p ForPark = kinds.Park
+asks_at p CutByAttempt = abandon_of (kind_at p)
+asks_at p CutByOperation = abandon_of (kind_at p)
+
+abbrev pub is_in_attempt : Point → Bool
+is_in_attempt AtReadBeforeAttempt = true
+is_in_attempt AtChoose = true
+is_in_attempt AtEndpoint = true
+is_in_attempt AtApply = true
+is_in_attempt AtModifyBeforeSigning = true
+is_in_attempt AtReadBeforeSigning = true
+is_in_attempt AtSign = true
+is_in_attempt AtReadAfterSigning = true
+is_in_attempt AtModifyBeforeTransmit = true
+is_in_attempt AtReadBeforeTransmit = true
+is_in_attempt AtTransmit = true
+is_in_attempt AtReadAfterTransmit = true
+is_in_attempt AtModifyBeforeDeserialization = true
+is_in_attempt AtReadBeforeDeserialization = true
+is_in_attempt AtStream = true
+is_in_attempt AtBody = true
+is_in_attempt AtDeserialize = true
+is_in_attempt AtReadAfterDeserialization = true
+is_in_attempt _ = false
+
+abbrev pub is_in_operation : Point → Bool
+is_in_operation AtConfigureClient = false
+is_in_operation AtHookClient = false
+is_in_operation AtConfigureOperation = false
+is_in_operation AtHookOperation = false
+is_in_operation AtConfigureFinal = false
+is_in_operation AtStartOperationFailed = false
+is_in_operation AtStartOperation = false
+is_in_operation AtCutModifyBeforeAttemptCompletion = false
+is_in_operation AtCutReadAfterAttempt = false
+is_in_operation AtModifyBeforeCompletion = false
+is_in_operation AtReadAfterExecution = false
+is_in_operation _ = true
+
+abbrev pub first_wait : Armed → Point → Waiting
+first_wait m p =
+    cond (cond m.attempt (is_in_attempt p) false) ForAttempt (cond (cond m.operation (is_in_operation p) false) ForOperation ForPark)
+
+abbrev pub stage : Place → Waiting → Stage
+stage q w = record { place = q; waiting = w }
+
+-- the stage after an entry; s stands after it
+abbrev pub moved_at : StopPoint → Armed → Point → Waiting → State → Entry → Stage
+moved_at stop m p NotWaiting s e = cond (pending e) (stage (here m p) (first_wait m p)) (stage (next_point stop m p s) NotWaiting)
+moved_at stop m p ForAttempt s e = stage (here m p) (cond (pending e) (cond m.operation ForOperation ForPark) CutByAttempt)
+moved_at stop m p ForOperation s e = stage (here m p) (cond (pending e) ForPark CutByOperation)
+moved_at stop m p ForPark s e = stage (here m p) NotWaiting
+moved_at stop m p CutByAttempt s e = stage (settling_at m) NotWaiting
+moved_at stop m p CutByOperation s e = stage (cond (is_in_attempt p) (here m AtCutModifyBeforeAttemptCompletion) (finishing_at m)) NotWaiting

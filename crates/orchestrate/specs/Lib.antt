@@ -1,0 +1,10 @@
+pub mod Asking
+pub mod Replies
+pub mod Points
+pub mod Driving
+pub mod Growth
+pub mod Fresh
+pub mod Finish
+pub mod Same
+pub mod ScriptValue
+pub mod Script

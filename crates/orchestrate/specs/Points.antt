@@ -1,0 +1,298 @@
+-- Where the code of a run may stand, and the position that this is.
+use Rattle.std.specs.Prelude.{false, Option, None, Some, cond, List, [], ◌∷◌}
+use Rattle.run_grammar.specs.declared.kind.Role.{Role}
+use Rattle.run_grammar.specs.declared.kind.Kind.{Kind}
+use Rattle.orchestrate.specs.declared.point.Point.{Point}
+use Rattle.smithy_base.specs.declared.kinds.StopPoint.{StopPoint}
+use Rattle.orchestrate.specs.declared.stage.Armed.{Armed}
+use Rattle.orchestrate.specs.declared.stage.Place.{Place}
+use Rattle.smithy_base.specs.declared.hook.Hook.TheVariants.{ModifyBeforeAttemptCompletion, ModifyBeforeCompletion, ModifyBeforeDeserialization, ModifyBeforeRetryLoop, ModifyBeforeSerialization, ModifyBeforeSigning, ModifyBeforeTransmit, ReadAfterAttempt, ReadAfterDeserialization, ReadAfterExecution, ReadAfterSerialization, ReadAfterSigning, ReadAfterTransmit, ReadBeforeAttempt, ReadBeforeDeserialization, ReadBeforeExecutionClient, ReadBeforeExecutionOperation, ReadBeforeSerialization, ReadBeforeSigning, ReadBeforeTransmit}
+use Rattle.run_grammar.specs.declared.kind.Kind.TheVariants as kinds
+use Rattle.orchestrate.specs.declared.point.Point.TheVariants.{AtApply, AtBody, AtChoose, AtConfigureClient, AtConfigureFinal, AtConfigureOperation, AtCutModifyBeforeAttemptCompletion, AtCutReadAfterAttempt, AtDecide, AtDeserialize, AtEndpoint, AtHookClient, AtHookOperation, AtInitial, AtLoad, AtModifyBeforeAttemptCompletion, AtModifyBeforeCompletion, AtModifyBeforeDeserialization, AtModifyBeforeRetryLoop, AtModifyBeforeSerialization, AtModifyBeforeSigning, AtModifyBeforeTransmit, AtReadAfterAttempt, AtReadAfterDeserialization, AtReadAfterExecution, AtReadAfterSerialization, AtReadAfterSigning, AtReadAfterTransmit, AtReadBeforeAttempt, AtReadBeforeDeserialization, AtReadBeforeSerialization, AtReadBeforeSigning, AtReadBeforeTransmit, AtSerialize, AtSign, AtStartAttempt, AtStartOperation, AtStartOperationFailed, AtStartRetry, AtStartSend, AtStream, AtTransmit, AtWaitRetry, AtWaitSend}
+use Rattle.run_grammar.specs.declared.kind.Role.TheVariants.{Attempt, Operation, Retry, Send}
+use Rattle.run_grammar.specs.declared.kind.ConfigureStage.TheVariants as stages
+use Rattle.smithy_base.specs.declared.kinds.StopPoint.TheVariants as stops
+use Rattle.run_grammar.specs.Standing.{State}
+use Rattle.run_grammar.specs.Grammar.{hook, halted, arm, armed, sending, streaming, attempt, settle, round, loop, grant_round, grant, op, finish, failed, delayed, went, started, not_streaming, body_read, decided_yes, decided_delay, endpoint_stands, load_body, checkpoint_stands, failure_stands, timeout_stands}
+use Rattle.run_grammar.specs.Production.{Production, Nothing, Work, ◌⨟◌, Where, Rounds, Again, InAttempt, Under}
+use Rattle.run_grammar.specs.Machine.{Position, Whole, Asking}
+
+-- the question that is asked there
+abbrev pub kind_at : Point → Kind
+kind_at AtConfigureClient = kinds.Configure stages.Client
+kind_at AtHookClient = kinds.Hook ReadBeforeExecutionClient
+kind_at AtConfigureOperation = kinds.Configure stages.Operation
+kind_at AtHookOperation = kinds.Hook ReadBeforeExecutionOperation
+kind_at AtConfigureFinal = kinds.Configure stages.Final
+kind_at AtStartOperationFailed = kinds.Start Operation
+kind_at AtStartOperation = kinds.Start Operation
+kind_at AtModifyBeforeSerialization = kinds.Hook ModifyBeforeSerialization
+kind_at AtReadBeforeSerialization = kinds.Hook ReadBeforeSerialization
+kind_at AtSerialize = kinds.Serialize
+kind_at AtLoad = kinds.Load
+kind_at AtReadAfterSerialization = kinds.Hook ReadAfterSerialization
+kind_at AtModifyBeforeRetryLoop = kinds.Hook ModifyBeforeRetryLoop
+kind_at AtInitial = kinds.Initial
+kind_at AtStartSend = kinds.Start Send
+kind_at AtWaitSend = kinds.Wait Send
+kind_at AtStartAttempt = kinds.Start Attempt
+kind_at AtReadBeforeAttempt = kinds.Hook ReadBeforeAttempt
+kind_at AtChoose = kinds.Choose
+kind_at AtEndpoint = kinds.Endpoint
+kind_at AtApply = kinds.Apply
+kind_at AtModifyBeforeSigning = kinds.Hook ModifyBeforeSigning
+kind_at AtReadBeforeSigning = kinds.Hook ReadBeforeSigning
+kind_at AtSign = kinds.Sign
+kind_at AtReadAfterSigning = kinds.Hook ReadAfterSigning
+kind_at AtModifyBeforeTransmit = kinds.Hook ModifyBeforeTransmit
+kind_at AtReadBeforeTransmit = kinds.Hook ReadBeforeTransmit
+kind_at AtTransmit = kinds.Transmit
+kind_at AtReadAfterTransmit = kinds.Hook ReadAfterTransmit
+kind_at AtModifyBeforeDeserialization = kinds.Hook ModifyBeforeDeserialization
+kind_at AtReadBeforeDeserialization = kinds.Hook ReadBeforeDeserialization
+kind_at AtStream = kinds.Stream
+kind_at AtBody = kinds.Body
+kind_at AtDeserialize = kinds.Deserialize
+kind_at AtReadAfterDeserialization = kinds.Hook ReadAfterDeserialization
+kind_at AtModifyBeforeAttemptCompletion = kinds.Hook ModifyBeforeAttemptCompletion
+kind_at AtReadAfterAttempt = kinds.Hook ReadAfterAttempt
+kind_at AtDecide = kinds.Decide
+kind_at AtStartRetry = kinds.Start Retry
+kind_at AtWaitRetry = kinds.Wait Retry
+kind_at AtCutModifyBeforeAttemptCompletion = kinds.Hook ModifyBeforeAttemptCompletion
+kind_at AtCutReadAfterAttempt = kinds.Hook ReadAfterAttempt
+kind_at AtModifyBeforeCompletion = kinds.Hook ModifyBeforeCompletion
+kind_at AtReadAfterExecution = kinds.Hook ReadAfterExecution
+
+abbrev pub none_armed : Armed
+none_armed = record { operation = false; attempt = false }
+
+-- the part in which a point lies
+abbrev pub in_operation : Armed → Production → Production
+in_operation m r = cond m.operation (Under Operation r settle) r ⨟ finish
+
+abbrev pub in_attempt : Armed → Production → Production
+in_attempt m r = cond m.attempt (Under Attempt (InAttempt r) Nothing) (InAttempt r)
+
+abbrev pub after_front : StopPoint → Production
+after_front stop = Where failed Nothing (grant ⨟ Where went (loop stop) Nothing)
+
+abbrev pub in_front : StopPoint → Armed → Production → Production
+in_front stop m r = in_operation m (r ⨟ after_front stop)
+
+abbrev pub in_grant : StopPoint → Armed → Production → Production
+in_grant stop m r = in_operation m (Rounds r grant_round ⨟ Where went (loop stop) Nothing)
+
+abbrev pub after_turn : Production
+after_turn =
+    Where decided_yes (Where checkpoint_stands Again Nothing)
+    (Where decided_delay
+    (Work (kinds.Start Retry) ⨟ Where (started Retry) (Where checkpoint_stands (Work (kinds.Wait Retry) ⨟ Again) Nothing) Nothing)
+    Nothing)
+
+abbrev pub in_round : StopPoint → Armed → Production → Production
+in_round stop m r = in_operation m (Rounds r (round stop))
+
+abbrev pub in_turn : StopPoint → Armed → Production → Production
+in_turn stop m r = in_round stop m (r ⨟ after_turn)
+
+abbrev pub in_try : StopPoint → Armed → Production → Production
+in_try stop m r = in_turn stop m (in_attempt m r ⨟ settle ⨟ Work kinds.Decide)
+
+abbrev pub after_opening : StopPoint → Production → Production
+after_opening stops.None r = r ⨟ Where failed Nothing (halted (sending ∷ streaming ∷ []))
+after_opening stops.BeforeTransmit r = r
+
+abbrev pub in_opening : StopPoint → Armed → Production → Production
+in_opening stop m r = in_try stop m (after_opening stop r)
+
+-- after a step of a halted word: the rest of it, where the step did not fail
+abbrev pub and_then : List Production → Production
+and_then [] = Nothing
+and_then (p ∷ ps) = Nothing ⨟ Where failed Nothing (halted (p ∷ ps))
+
+abbrev pub in_sending : StopPoint → Armed → Production → Production
+in_sending stop m r = in_try stop m (r ⨟ Where failed Nothing streaming)
+
+abbrev pub configuring : Production → Production
+configuring p = Nothing ⨟ Where failed Nothing p
+
+abbrev pub after_config : StopPoint → Production
+after_config stop = Where failure_stands (arm Operation ⨟ finish) (armed Operation (op stop) settle ⨟ finish)
+
+abbrev pub hooked_third : StopPoint → Production
+hooked_third stop = hook ReadBeforeExecutionOperation ⨟ Work (kinds.Configure stages.Final) ⨟ Where failed Nothing (after_config stop)
+
+abbrev pub hooked_second : StopPoint → Production
+hooked_second stop = hook ReadBeforeExecutionClient ⨟ Work (kinds.Configure stages.Operation) ⨟ Where failed Nothing (hooked_third stop)
+
+-- what is left after the question at the point
+abbrev pub left_at : StopPoint → Armed → Point → Production
+left_at stop m AtConfigureClient = configuring (hooked_second stop)
+left_at stop m AtHookClient = Nothing ⨟ Work (kinds.Configure stages.Operation) ⨟ Where failed Nothing (hooked_third stop)
+left_at stop m AtConfigureOperation = configuring (hooked_third stop)
+left_at stop m AtHookOperation = Nothing ⨟ Work (kinds.Configure stages.Final) ⨟ Where failed Nothing (after_config stop)
+left_at stop m AtConfigureFinal = configuring (after_config stop)
+left_at stop m AtStartOperationFailed = Nothing ⨟ finish
+left_at stop m AtStartOperation = (Nothing ⨟ Where (started Operation) (Under Operation (op stop) settle) (op stop)) ⨟ finish
+left_at stop m AtModifyBeforeSerialization = in_front stop m (and_then (hook ReadBeforeSerialization ∷ Work kinds.Serialize ∷ Where load_body (Work kinds.Load) Nothing ∷ hook ReadAfterSerialization ∷ hook ModifyBeforeRetryLoop ∷ []))
+left_at stop m AtReadBeforeSerialization = in_front stop m (and_then (Work kinds.Serialize ∷ Where load_body (Work kinds.Load) Nothing ∷ hook ReadAfterSerialization ∷ hook ModifyBeforeRetryLoop ∷ []))
+left_at stop m AtSerialize = in_front stop m (and_then (Where load_body (Work kinds.Load) Nothing ∷ hook ReadAfterSerialization ∷ hook ModifyBeforeRetryLoop ∷ []))
+left_at stop m AtLoad = in_front stop m (and_then (hook ReadAfterSerialization ∷ hook ModifyBeforeRetryLoop ∷ []))
+left_at stop m AtReadAfterSerialization = in_front stop m (and_then (hook ModifyBeforeRetryLoop ∷ []))
+left_at stop m AtModifyBeforeRetryLoop = in_front stop m Nothing
+left_at stop m AtInitial = in_grant stop m (Nothing ⨟ Where delayed (Work (kinds.Start Send) ⨟ Where (started Send) (Work (kinds.Wait Send) ⨟ Again) Nothing) Nothing)
+left_at stop m AtStartSend = in_grant stop m (Nothing ⨟ Where (started Send) (Work (kinds.Wait Send) ⨟ Again) Nothing)
+left_at stop m AtWaitSend = in_grant stop m (Nothing ⨟ Again)
+left_at stop m AtStartAttempt = in_turn stop m ((Nothing ⨟ Where (started Attempt) (Under Attempt (InAttempt (attempt stop)) Nothing) (InAttempt (attempt stop))) ⨟ settle ⨟ Work kinds.Decide)
+left_at stop m AtReadBeforeAttempt = in_opening stop m (and_then (Work kinds.Choose ∷ Where endpoint_stands Nothing (Work kinds.Endpoint) ∷ Work kinds.Apply ∷ hook ModifyBeforeSigning ∷ hook ReadBeforeSigning ∷ Work kinds.Sign ∷ hook ReadAfterSigning ∷ hook ModifyBeforeTransmit ∷ hook ReadBeforeTransmit ∷ []))
+left_at stop m AtChoose = in_opening stop m (and_then (Where endpoint_stands Nothing (Work kinds.Endpoint) ∷ Work kinds.Apply ∷ hook ModifyBeforeSigning ∷ hook ReadBeforeSigning ∷ Work kinds.Sign ∷ hook ReadAfterSigning ∷ hook ModifyBeforeTransmit ∷ hook ReadBeforeTransmit ∷ []))
+left_at stop m AtEndpoint = in_opening stop m (and_then (Work kinds.Apply ∷ hook ModifyBeforeSigning ∷ hook ReadBeforeSigning ∷ Work kinds.Sign ∷ hook ReadAfterSigning ∷ hook ModifyBeforeTransmit ∷ hook ReadBeforeTransmit ∷ []))
+left_at stop m AtApply = in_opening stop m (and_then (hook ModifyBeforeSigning ∷ hook ReadBeforeSigning ∷ Work kinds.Sign ∷ hook ReadAfterSigning ∷ hook ModifyBeforeTransmit ∷ hook ReadBeforeTransmit ∷ []))
+left_at stop m AtModifyBeforeSigning = in_opening stop m (and_then (hook ReadBeforeSigning ∷ Work kinds.Sign ∷ hook ReadAfterSigning ∷ hook ModifyBeforeTransmit ∷ hook ReadBeforeTransmit ∷ []))
+left_at stop m AtReadBeforeSigning = in_opening stop m (and_then (Work kinds.Sign ∷ hook ReadAfterSigning ∷ hook ModifyBeforeTransmit ∷ hook ReadBeforeTransmit ∷ []))
+left_at stop m AtSign = in_opening stop m (and_then (hook ReadAfterSigning ∷ hook ModifyBeforeTransmit ∷ hook ReadBeforeTransmit ∷ []))
+left_at stop m AtReadAfterSigning = in_opening stop m (and_then (hook ModifyBeforeTransmit ∷ hook ReadBeforeTransmit ∷ []))
+left_at stop m AtModifyBeforeTransmit = in_opening stop m (and_then (hook ReadBeforeTransmit ∷ []))
+left_at stop m AtReadBeforeTransmit = in_opening stop m Nothing
+left_at stop m AtTransmit = in_sending stop m (and_then (hook ReadAfterTransmit ∷ hook ModifyBeforeDeserialization ∷ hook ReadBeforeDeserialization ∷ []))
+left_at stop m AtReadAfterTransmit = in_sending stop m (and_then (hook ModifyBeforeDeserialization ∷ hook ReadBeforeDeserialization ∷ []))
+left_at stop m AtModifyBeforeDeserialization = in_sending stop m (and_then (hook ReadBeforeDeserialization ∷ []))
+left_at stop m AtReadBeforeDeserialization = in_sending stop m Nothing
+left_at stop m AtStream = in_try stop m (Nothing ⨟ Where not_streaming (Work kinds.Body ⨟ Where body_read (Work kinds.Deserialize) Nothing) Nothing ⨟ hook ReadAfterDeserialization)
+left_at stop m AtBody = in_try stop m ((Nothing ⨟ Where body_read (Work kinds.Deserialize) Nothing) ⨟ hook ReadAfterDeserialization)
+left_at stop m AtDeserialize = in_try stop m (Nothing ⨟ hook ReadAfterDeserialization)
+left_at stop m AtReadAfterDeserialization = in_try stop m Nothing
+left_at stop m AtModifyBeforeAttemptCompletion = in_turn stop m ((Nothing ⨟ hook ReadAfterAttempt) ⨟ Work kinds.Decide)
+left_at stop m AtReadAfterAttempt = in_turn stop m (Nothing ⨟ Work kinds.Decide)
+left_at stop m AtDecide = in_turn stop m Nothing
+left_at stop m AtStartRetry = in_round stop m (Nothing ⨟ Where (started Retry) (Where checkpoint_stands (Work (kinds.Wait Retry) ⨟ Again) Nothing) Nothing)
+left_at stop m AtWaitRetry = in_round stop m (Nothing ⨟ Again)
+left_at stop m AtCutModifyBeforeAttemptCompletion = (Nothing ⨟ hook ReadAfterAttempt) ⨟ finish
+left_at stop m AtCutReadAfterAttempt = Nothing ⨟ finish
+left_at stop m AtModifyBeforeCompletion = Nothing ⨟ hook ReadAfterExecution
+left_at stop m AtReadAfterExecution = Nothing
+
+-- whether a point lies in the operation's scope, and in the attempt's
+abbrev pub in_scope : Armed → List Role
+in_scope m = cond m.attempt (Attempt ∷ cond m.operation (Operation ∷ []) []) (cond m.operation (Operation ∷ []) [])
+
+abbrev pub operation_scope : Armed → List Role
+operation_scope m = cond m.operation (Operation ∷ []) []
+
+abbrev pub attempt_scope : Armed → List Role
+attempt_scope m = cond m.attempt (Attempt ∷ operation_scope m) (operation_scope m)
+
+-- the deadlines that are armed at the point
+abbrev pub scope_at : Armed → Point → List Role
+scope_at m AtConfigureClient = []
+scope_at m AtHookClient = []
+scope_at m AtConfigureOperation = []
+scope_at m AtHookOperation = []
+scope_at m AtConfigureFinal = []
+scope_at m AtStartOperationFailed = []
+scope_at m AtStartOperation = []
+scope_at m AtReadBeforeAttempt = attempt_scope m
+scope_at m AtChoose = attempt_scope m
+scope_at m AtEndpoint = attempt_scope m
+scope_at m AtApply = attempt_scope m
+scope_at m AtModifyBeforeSigning = attempt_scope m
+scope_at m AtReadBeforeSigning = attempt_scope m
+scope_at m AtSign = attempt_scope m
+scope_at m AtReadAfterSigning = attempt_scope m
+scope_at m AtModifyBeforeTransmit = attempt_scope m
+scope_at m AtReadBeforeTransmit = attempt_scope m
+scope_at m AtTransmit = attempt_scope m
+scope_at m AtReadAfterTransmit = attempt_scope m
+scope_at m AtModifyBeforeDeserialization = attempt_scope m
+scope_at m AtReadBeforeDeserialization = attempt_scope m
+scope_at m AtStream = attempt_scope m
+scope_at m AtBody = attempt_scope m
+scope_at m AtDeserialize = attempt_scope m
+scope_at m AtReadAfterDeserialization = attempt_scope m
+scope_at m AtCutModifyBeforeAttemptCompletion = []
+scope_at m AtCutReadAfterAttempt = []
+scope_at m AtModifyBeforeCompletion = []
+scope_at m AtReadAfterExecution = []
+scope_at m _ = operation_scope m
+
+abbrev pub here : Armed → Point → Place
+here m p = record { armed = m; point = Some p }
+
+abbrev pub ended : Armed → Place
+ended m = record { armed = m; point = None }
+
+-- the next point after an answer that is not Pending, where s stands after it
+abbrev pub begin_turn : Armed → State → Place
+begin_turn m s = cond (timeout_stands Attempt s) (here m AtStartAttempt) (here (record { operation = m.operation; attempt = false }) AtReadBeforeAttempt)
+
+abbrev pub unless_failed : State → Place → Place → Place
+unless_failed s p q = cond (failed s) p q
+
+abbrev pub finishing_at : Armed → Place
+finishing_at m = here m AtModifyBeforeCompletion
+
+abbrev pub settling_at : Armed → Place
+settling_at m = here m AtModifyBeforeAttemptCompletion
+
+abbrev pub after_opened : StopPoint → State → Armed → Place
+after_opened stops.None s m = cond (failed s) (settling_at m) (here m AtTransmit)
+after_opened stops.BeforeTransmit s m = settling_at m
+
+abbrev pub next_point : StopPoint → Armed → Point → State → Place
+next_point stop m AtConfigureClient s = cond (failed s) (ended m) (here m AtHookClient)
+next_point stop m AtHookClient s = here m AtConfigureOperation
+next_point stop m AtConfigureOperation s = cond (failed s) (ended m) (here m AtHookOperation)
+next_point stop m AtHookOperation s = here m AtConfigureFinal
+next_point stop m AtConfigureFinal s =
+    cond (failed s) (ended m)
+    (cond (failure_stands s)
+    (cond (timeout_stands Operation s) (here m AtStartOperationFailed) (finishing_at m))
+    (cond (timeout_stands Operation s) (here m AtStartOperation) (here none_armed AtModifyBeforeSerialization)))
+next_point stop m AtStartOperationFailed s = finishing_at m
+next_point stop m AtStartOperation s = here (record { operation = started Operation s; attempt = false }) AtModifyBeforeSerialization
+next_point stop m AtModifyBeforeSerialization s = cond (failed s) (finishing_at m) (here m AtReadBeforeSerialization)
+next_point stop m AtReadBeforeSerialization s = cond (failed s) (finishing_at m) (here m AtSerialize)
+next_point stop m AtSerialize s = cond (failed s) (finishing_at m) (cond (load_body s) (here m AtLoad) (here m AtReadAfterSerialization))
+next_point stop m AtLoad s = cond (failed s) (finishing_at m) (here m AtReadAfterSerialization)
+next_point stop m AtReadAfterSerialization s = cond (failed s) (finishing_at m) (here m AtModifyBeforeRetryLoop)
+next_point stop m AtModifyBeforeRetryLoop s = cond (failed s) (finishing_at m) (here m AtInitial)
+next_point stop m AtInitial s = cond (delayed s) (here m AtStartSend) (cond (went s) (begin_turn m s) (finishing_at m))
+next_point stop m AtStartSend s = cond (started Send s) (here m AtWaitSend) (finishing_at m)
+next_point stop m AtWaitSend s = here m AtInitial
+next_point stop m AtStartAttempt s = here (record { operation = m.operation; attempt = started Attempt s }) AtReadBeforeAttempt
+next_point stop m AtReadBeforeAttempt s = cond (failed s) (settling_at m) (here m AtChoose)
+next_point stop m AtChoose s = cond (failed s) (settling_at m) (cond (endpoint_stands s) (here m AtApply) (here m AtEndpoint))
+next_point stop m AtEndpoint s = cond (failed s) (settling_at m) (here m AtApply)
+next_point stop m AtApply s = cond (failed s) (settling_at m) (here m AtModifyBeforeSigning)
+next_point stop m AtModifyBeforeSigning s = cond (failed s) (settling_at m) (here m AtReadBeforeSigning)
+next_point stop m AtReadBeforeSigning s = cond (failed s) (settling_at m) (here m AtSign)
+next_point stop m AtSign s = cond (failed s) (settling_at m) (here m AtReadAfterSigning)
+next_point stop m AtReadAfterSigning s = cond (failed s) (settling_at m) (here m AtModifyBeforeTransmit)
+next_point stop m AtModifyBeforeTransmit s = cond (failed s) (settling_at m) (here m AtReadBeforeTransmit)
+next_point stop m AtReadBeforeTransmit s = after_opened stop s m
+next_point stop m AtTransmit s = cond (failed s) (settling_at m) (here m AtReadAfterTransmit)
+next_point stop m AtReadAfterTransmit s = cond (failed s) (settling_at m) (here m AtModifyBeforeDeserialization)
+next_point stop m AtModifyBeforeDeserialization s = cond (failed s) (settling_at m) (here m AtReadBeforeDeserialization)
+next_point stop m AtReadBeforeDeserialization s = cond (failed s) (settling_at m) (here m AtStream)
+next_point stop m AtStream s = cond (not_streaming s) (here m AtBody) (here m AtReadAfterDeserialization)
+next_point stop m AtBody s = cond (body_read s) (here m AtDeserialize) (here m AtReadAfterDeserialization)
+next_point stop m AtDeserialize s = here m AtReadAfterDeserialization
+next_point stop m AtReadAfterDeserialization s = settling_at m
+next_point stop m AtModifyBeforeAttemptCompletion s = here m AtReadAfterAttempt
+next_point stop m AtReadAfterAttempt s = here m AtDecide
+next_point stop m AtDecide s =
+    cond (decided_yes s) (cond (checkpoint_stands s) (begin_turn m s) (finishing_at m)) (cond (decided_delay s) (here m AtStartRetry) (finishing_at m))
+next_point stop m AtStartRetry s = cond (started Retry s) (cond (checkpoint_stands s) (here m AtWaitRetry) (finishing_at m)) (finishing_at m)
+next_point stop m AtWaitRetry s = begin_turn m s
+next_point stop m AtCutModifyBeforeAttemptCompletion s = here m AtCutReadAfterAttempt
+next_point stop m AtCutReadAfterAttempt s = finishing_at m
+next_point stop m AtModifyBeforeCompletion s = here m AtReadAfterExecution
+next_point stop m AtReadAfterExecution s = ended m
+
+abbrev pub asking_at : StopPoint → Armed → Option Point → Position
+asking_at stop m None = Whole
+asking_at stop m (Some p) = Asking (kind_at p) (scope_at m p) (left_at stop m p)
+
+abbrev pub placed : StopPoint → Place → Position
+placed stop q = asking_at stop q.armed q.point

@@ -1,0 +1,103 @@
+//! Runs of an operation from begin to end, over payloads.
+ghost use Rattle.std.specs.Prelude.{◌≡◌};
+ghost use Rattle.orchestrate.specs.Growth.{GrewByAtMost};
+
+use crate::finish::{failure, outcome};
+use crate::invocation::{Invocation, Step};
+use crate::world::World;
+use run_grammar::{Standing, StopPoint};
+use smithy_base::{InterceptorContext, OutOfMemory, Payload, SdkError};
+use std::alloc::Global;
+
+/// Why an operation has no output.
+#[derive(Drop)]
+pub enum InvokeError<E> {
+    /// The run is whole, and a failure stands at its end.
+    Sdk(SdkError<E>),
+    /// `fuel` questions were asked, and the run isn't whole. Its finalizers may not have run.
+    Unfinished,
+    /// The run is whole, and its output, or the error of its service, isn't of the caller's type.
+    WrongType(Payload),
+    /// An allocation was refused. The run's finalizers may not have run.
+    OutOfMemory,
+}
+
+impl<E> From<OutOfMemory> for InvokeError<E> {
+    ghost use Rattle.std.specs.Prelude.{◌≡◌};
+    ghost use Rattle.orchestrate.specs.declared.execution.InvokeError.TheVariants as errors;
+
+    ghost from_gives = { λ _ e. e ≡ errors.OutOfMemory };
+
+    fn from(_error: OutOfMemory) -> InvokeError<E> {
+        InvokeError::OutOfMemory
+    }
+}
+
+/// Runs an operation, and answers its output. At most `fuel` questions are asked.
+pub fn invoke<W: World>(
+    alloc: Global,
+    _service_name: &str,
+    _operation_name: &str,
+    world: &mut W,
+    input: Payload,
+    fuel: u64,
+) -> Result<Payload, InvokeError<Payload>>
+    ensures { GrewByAtMost fuel (W.calls world.old) (W.calls world.new) }
+{
+    match run(alloc, world, input, StopPoint::None, fuel)? {
+        Some(standing) => match outcome(standing.context) {
+            Ok(payload) => Ok(payload),
+            Err(error) => Err(InvokeError::Sdk(error)),
+        },
+        None => Err(InvokeError::Unfinished),
+    }
+}
+
+/// Runs an operation up to the stop point, and answers the context at its end. At most `fuel`
+/// questions are asked.
+pub fn invoke_with_stop_point<W: World>(
+    alloc: Global,
+    _service_name: &str,
+    _operation_name: &str,
+    world: &mut W,
+    input: Payload,
+    stop: StopPoint,
+    fuel: u64,
+) -> Result<InterceptorContext, InvokeError<Payload>>
+    ensures { GrewByAtMost fuel (W.calls world.old) (W.calls world.new) }
+{
+    match run(alloc, world, input, stop, fuel)? {
+        Some(standing) => {
+            let context = standing.context;
+            if context.is_failed() {
+                Err(InvokeError::Sdk(failure(context)))
+            } else {
+                Ok(context)
+            }
+        }
+        None => Err(InvokeError::Unfinished),
+    }
+}
+
+/// Drives a run until it is whole, or `fuel` questions were asked. Some is what stands at the end.
+pub fn run<W: World>(
+    alloc: Global,
+    world: &mut W,
+    input: Payload,
+    stop: StopPoint,
+    fuel: u64,
+) -> Result<Option<Standing>, OutOfMemory>
+    ensures { GrewByAtMost fuel (W.calls world.old) (W.calls world.new) }
+{
+    let mut invocation = Invocation::start(input, stop);
+    for _ in 0..fuel {
+        match invocation.drive(alloc, world)? {
+            Step::Ended => return Ok(Some(invocation.standing)),
+            Step::Asked => {}
+        }
+    }
+    match invocation.stage.place.point {
+        None => Ok(Some(invocation.standing)),
+        Some(_) => Ok(None),
+    }
+}

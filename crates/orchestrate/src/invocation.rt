@@ -1,0 +1,101 @@
+//! A run of an operation that is driven one question at a time.
+ghost use Rattle.std.specs.Prelude.{◌≡◌, IfOk, OnOk, OnErr};
+ghost use Rattle.orchestrate.specs.Growth.{GrewByOne, GrewByOneAtMost, GrewByStep};
+ghost use Rattle.orchestrate.specs.Fresh.{fresh};
+
+use crate::point::Point;
+use crate::reply::Reply;
+use crate::stage::{Armed, Place, Stage, Waiting, asks_at, moved};
+use crate::world::World;
+use run_grammar::{Standing, StopPoint};
+use smithy_base::{OutOfMemory, Payload};
+use std::alloc::Global;
+
+/// A run of an operation: what stands in it, and where it stands. It never sees the log.
+#[derive(Drop)]
+pub struct Invocation {
+    pub stop: StopPoint,
+    pub standing: Standing,
+    pub stage: Stage,
+    /// Whether memory ran out in it. It then asks nothing more.
+    pub lost: bool,
+}
+
+/// What a step of a run came to.
+#[derive(Clone, Copy, Debug, PartialEq, Eq)]
+pub enum Step {
+    /// The world was asked one question.
+    Asked,
+    /// The run is whole, and nothing was asked.
+    Ended,
+}
+
+impl Invocation {
+    /// A run not begun. It takes no memory.
+    pub fn start(input: Payload, stop: StopPoint) -> Invocation
+        ensures { result ≡ fresh input stop }
+    {
+        Invocation {
+            stop,
+            standing: Standing::new(input),
+            stage: Stage {
+                place: Place {
+                    armed: Armed {
+                        operation: false,
+                        attempt: false,
+                    },
+                    point: Some(Point::AtConfigureClient),
+                },
+                waiting: Waiting::NotWaiting,
+            },
+            lost: false,
+        }
+    }
+
+    /// Asks the world one question, or none where the run is whole. Where there is no memory this
+    /// answers so from then on, and asks nothing.
+    pub fn drive<W: World>(&mut self, alloc: Global, world: &mut W) -> Result<Step, OutOfMemory>
+        ensures asked { IfOk result (λ r. GrewByStep r (W.calls world.old) (W.calls world.new)) }
+        ensures lost { OnErr result (GrewByOneAtMost (W.calls world.old) (W.calls world.new)) }
+    {
+        if self.lost {
+            return Err(OutOfMemory);
+        }
+        let Some(point) = self.stage.place.point else {
+            return Ok(Step::Ended);
+        };
+        self.lost = true;
+        self.ask(alloc, world, point)?;
+        self.lost = false;
+        Ok(Step::Asked)
+    }
+
+    // Asks the question of the point, and takes the answer in.
+    fn ask<W: World>(
+        &mut self,
+        alloc: Global,
+        world: &mut W,
+        point: Point,
+    ) -> Result<(), OutOfMemory>
+        ensures ok { OnOk result (GrewByOne (W.calls world.old) (W.calls world.new)) }
+        ensures err { OnErr result (GrewByOneAtMost (W.calls world.old) (W.calls world.new)) }
+    {
+        let kind = asks_at(point, self.stage.waiting);
+        let question = self.standing.question(kind)?;
+        let nanos = question.nanos();
+        let answer = world.ask(alloc, question)?;
+        let reply = Reply::of(kind, &answer);
+        let taken = self.standing.take_in(alloc, kind, nanos, &answer);
+        drop(answer);
+        taken?;
+        self.stage = moved(
+            self.stop,
+            self.stage.place.armed,
+            point,
+            self.stage.waiting,
+            reply,
+            &self.standing,
+        );
+        Ok(())
+    }
+}

@@ -1,0 +1,99 @@
+//! Operations over the caller's own types.
+ghost use Rattle.std.specs.Prelude.{◌≡◌};
+ghost use Rattle.orchestrate.specs.Growth.{GrewByAtMost};
+
+use crate::execution::{InvokeError, invoke};
+use crate::world::World;
+use smithy_base::{Payload, SdkError, Text, Wire};
+use std::alloc::Global;
+use std::marker::PhantomData;
+
+/// An operation with input `I`, output `O` and modelled error `E`.
+#[derive(Drop)]
+pub struct Operation<I, O, E> {
+    service_name: Text,
+    operation_name: Text,
+    types: PhantomData<(I, O, E)>,
+}
+
+impl<I: Wire + Drop, O: Wire + Drop, E: Wire + Drop> Operation<I, O, E> {
+    /// An operation for a world that the caller brings. It takes no memory.
+    pub fn named(service_name: Text, operation_name: Text) -> Operation<I, O, E> {
+        Operation {
+            service_name,
+            operation_name,
+            types: PhantomData,
+        }
+    }
+
+    /// The service's name.
+    pub fn service_name(&self) -> &str {
+        self.service_name.as_str()
+    }
+
+    /// The operation's name.
+    pub fn operation_name(&self) -> &str {
+        self.operation_name.as_str()
+    }
+
+    /// Runs the operation. At most `fuel` questions are asked of the world.
+    pub fn invoke<W: World>(
+        &self,
+        alloc: Global,
+        world: &mut W,
+        input: I,
+        fuel: u64,
+    ) -> Result<O, InvokeError<E>>
+        ensures { GrewByAtMost fuel (W.calls world.old) (W.calls world.new) }
+    {
+        let payload = input.to_payload(alloc)?;
+        let answer = invoke(
+            alloc,
+            self.service_name.as_str(),
+            self.operation_name.as_str(),
+            world,
+            payload,
+            fuel,
+        );
+        match answer {
+            Ok(output) => read_output(alloc, output),
+            Err(error) => Err(read_error(alloc, error)),
+        }
+    }
+}
+
+// The output as the caller's type.
+fn read_output<O: Wire, E>(alloc: Global, output: Payload) -> Result<O, InvokeError<E>> {
+    match O::from_payload(alloc, &output)? {
+        Some(value) => Ok(value),
+        None => Err(InvokeError::WrongType(output)),
+    }
+}
+
+// The error with the service's error as the caller's type.
+fn read_error<E: Wire>(alloc: Global, error: InvokeError<Payload>) -> InvokeError<E> {
+    match error {
+        InvokeError::Sdk(error) => read_sdk_error(alloc, error),
+        InvokeError::Unfinished => InvokeError::Unfinished,
+        InvokeError::WrongType(payload) => InvokeError::WrongType(payload),
+        InvokeError::OutOfMemory => InvokeError::OutOfMemory,
+    }
+}
+
+fn read_sdk_error<E: Wire>(alloc: Global, error: SdkError<Payload>) -> InvokeError<E> {
+    match error {
+        SdkError::ConstructionFailure(fault) => {
+            InvokeError::Sdk(SdkError::ConstructionFailure(fault))
+        }
+        SdkError::TimeoutError(fault) => InvokeError::Sdk(SdkError::TimeoutError(fault)),
+        SdkError::DispatchFailure(fault) => InvokeError::Sdk(SdkError::DispatchFailure(fault)),
+        SdkError::ResponseError(fault, response) => {
+            InvokeError::Sdk(SdkError::ResponseError(fault, response))
+        }
+        SdkError::ServiceError(payload, response) => match E::from_payload(alloc, &payload) {
+            Ok(Some(error)) => InvokeError::Sdk(SdkError::ServiceError(error, response)),
+            Ok(None) => InvokeError::WrongType(payload),
+            Err(error) => InvokeError::from(error),
+        },
+    }
+}

@@ -1,0 +1,91 @@
+//! What of an answer the way on depends on.
+ghost use Rattle.std.specs.Prelude.{◌≡◌};
+ghost use Rattle.run_grammar.specs.Entry.{can_wait, same_role};
+ghost use Rattle.orchestrate.specs.Replies.{reply_of, started_by, started_of};
+
+use run_grammar::{Answer, Kind, Role};
+use smithy_base::Choice;
+
+/// What of an answer the way on depends on.
+#[derive(Clone, Copy, Debug, PartialEq, Eq)]
+pub struct Reply {
+    pub pending: bool,
+    pub failed: bool,
+    pub delayed: bool,
+    pub granted: bool,
+    /// The role of the sleep that was started.
+    pub started: Option<Role>,
+    pub not_streaming: bool,
+    pub read: bool,
+    pub again: bool,
+    pub again_later: bool,
+}
+
+impl Reply {
+    /// What this answer to a question of this kind says.
+    pub fn of(kind: Kind, answer: &Answer) -> Reply
+        ensures { result ≡ reply_of kind answer.now }
+    {
+        Reply {
+            pending: can_wait(kind) && matches!(answer, Answer::Pending),
+            failed: answer.fails(kind),
+            delayed: matches!(answer, Answer::Delay(_)),
+            granted: matches!(answer, Answer::Go),
+            started: started(kind, answer),
+            not_streaming: matches!(answer, Answer::NotStreaming),
+            read: matches!(answer, Answer::Read(_)),
+            again: matches!(answer, Answer::Decided(Choice::Yes, _)),
+            again_later: matches!(answer, Answer::Decided(Choice::Delay(_), _)),
+        }
+    }
+
+    /// Whether a sleep of this role was started.
+    pub fn has_started(&self, role: Role) -> bool
+        ensures { result ≡ started_by self.now.started role }
+    {
+        match self.started {
+            Some(other) => same_role(role, other),
+            None => false,
+        }
+    }
+}
+
+// The role of a sleep that was started.
+fn started(kind: Kind, answer: &Answer) -> Option<Role>
+    ensures { result ≡ started_of kind answer.now }
+{
+    match kind {
+        Kind::Start(role) => {
+            if matches!(answer, Answer::Started) {
+                Some(role)
+            } else {
+                None
+            }
+        }
+        _ => None,
+    }
+}
+
+/// Whether the two roles are one.
+pub fn same_role(a: Role, b: Role) -> bool
+    ensures { result ≡ same_role a b }
+{
+    match (a, b) {
+        (Role::Operation, Role::Operation) => true,
+        (Role::Attempt, Role::Attempt) => true,
+        (Role::Send, Role::Send) => true,
+        (Role::Retry, Role::Retry) => true,
+        (Role::LongPoll, Role::LongPoll) => true,
+        _ => false,
+    }
+}
+
+// Whether a question of this kind may be answered Pending.
+fn can_wait(kind: Kind) -> bool
+    ensures { result ≡ can_wait kind }
+{
+    matches!(
+        kind,
+        Kind::Load | Kind::Wait(_) | Kind::Choose | Kind::Endpoint | Kind::Transmit | Kind::Body
+    )
+}
