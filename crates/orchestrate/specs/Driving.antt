@@ -1,5 +1,5 @@
 -- What an Invocation stands for.
-use Rattle.std.specs.Prelude.{ℕ, length, ◌≤◌, Bool, true, false, Option, None, Some, cond, List, [], ◌∷◌, ◌++◌, ◌≡◌, ◌⊎◌}
+use Rattle.std.specs.Prelude.{Bool, true, false, Option, None, Some, cond, [], ◌∷◌}
 use Rattle.run_grammar.specs.declared.kind.Role.TheVariants.{Attempt, Operation}
 use Rattle.run_grammar.specs.declared.kind.Kind.{Kind}
 use Rattle.run_grammar.specs.declared.kind.Kind.TheVariants as kinds
@@ -12,22 +12,11 @@ use Rattle.run_grammar.specs.declared.answer.Entry.{Entry}
 use Rattle.orchestrate.specs.declared.stage.Waiting.{Waiting}
 use Rattle.orchestrate.specs.declared.stage.Waiting.TheVariants.{NotWaiting, ForAttempt, ForOperation, ForPark, CutByAttempt, CutByOperation}
 use Rattle.orchestrate.specs.declared.stage.Stage.{Stage}
-use Rattle.orchestrate.specs.declared.invocation.Invocation.{Invocation}
-use Rattle.run_grammar.specs.Entry.{kind_of, pending, abandon_of}
-use Rattle.run_grammar.specs.Fits.{fits}
-use Rattle.run_grammar.specs.declared.answer.Answer.{Answer}
-use Rattle.run_grammar.specs.Standing.{State, standing, WellHanded}
-use Rattle.run_grammar.specs.Grammar.{run}
-use Rattle.run_grammar.specs.Machine.{Position, Whole, Asking, begin, after, Path}
+use Rattle.run_grammar.specs.Entry.{pending, abandon_of}
+use Rattle.run_grammar.specs.Standing.{State}
+use Rattle.run_grammar.specs.Machine.{Position, Whole, Asking}
 use Rattle.run_grammar.specs.Machine.{Waiting as Waits, Cutting}
 use Rattle.orchestrate.specs.Points.{kind_at, left_at, scope_at, operation_scope, here, next_point, finishing_at, settling_at}
-use Rattle.run_grammar.specs.Laws.{EachFits, IsWhole, Begins}
-use Rattle.run_grammar.specs.Entry.{entry}
-use Rattle.run_grammar.specs.declared.question.Question.{Question}
-use Rattle.run_grammar.specs.declared.answer.Answer.TheVariants.{NoMemory}
-use Rattle.run_grammar.specs.declared.standing.Standing.{Standing}
-use Rattle.orchestrate.specs.declared.invocation.Step.{Step}
-use Rattle.orchestrate.specs.declared.invocation.Step.TheVariants.{Asked, Ended}
 
 abbrev pub waiting_at : StopPoint → Armed → Point → Waiting → Position
 waiting_at stop m p NotWaiting = Asking (kind_at p) (scope_at m p) (left_at stop m p)

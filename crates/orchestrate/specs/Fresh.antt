@@ -1,5 +1,5 @@
 -- An invocation that has asked nothing.
-use Rattle.std.specs.Prelude.{false, Some}
+use Rattle.std.specs.Prelude.{false}
 use Rattle.smithy_base.specs.declared.kinds.StopPoint.{StopPoint}
 use Rattle.smithy_base.specs.declared.payload.Payload.{Payload}
 use Rattle.run_grammar.specs.Standing.{starting}

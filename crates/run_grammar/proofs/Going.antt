@@ -9,11 +9,10 @@ use Rattle.run_grammar.specs.declared.kind.Kind.TheVariants.{Park, Wait}
 use Rattle.run_grammar.specs.declared.kind.Role.TheVariants.{Attempt, LongPoll, Operation, Retry, Send}
 use Rattle.run_grammar.specs.Entry.{kind_of, same_role, pending, ready, is_pending, is_ready, can_wait, abandon_of}
 use Rattle.run_grammar.specs.Fits.{fits, fits_wait}
-use Rattle.run_grammar.specs.Standing.{State, step, asked, WellHanded}
+use Rattle.run_grammar.specs.Standing.{State, step, WellHanded}
 use Rattle.run_grammar.specs.Production.{Production, Nothing, Work, ◌⨟◌, Where, Rounds, Again, InAttempt, Under, Ended}
 use Rattle.run_grammar.specs.Machine.{Spot, AtEnd, AtAgain, At, Rest, Left, Out, cut, first, then_spot, then_rest, round_spot, round_rest, fresh_spot, under_spot, under_rest, within_spot, within_rest, Position, Whole, Dead, Asking, Waiting, Cutting, position, begin, after_cut, next, Asks, Accepts}
 use Rattle.run_grammar.specs.Laws.{EachFits}
-use Rattle.run_grammar.specs.Entry.{entry}
 use Rattle.run_grammar.proofs.Positions.{FineAt, fine_next, fine_cut, FineRest, fine_begin, word_coming}
 use Rattle.run_grammar.proofs.Steps.{accepted}
 use Rattle.run_grammar.specs.Machine.{after, Path}

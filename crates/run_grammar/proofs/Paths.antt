@@ -1,8 +1,6 @@
 -- Lists that the machine goes through, and the laws (a) and (b).
 use Rattle.std.proofs.Common.{List, [], ◌∷◌, ◌++◌, ◌≡◌, refl, sym, ap, ◌∙◌, subst}
 use Rattle.run_grammar.specs.declared.kind.Kind.{Kind}
-use Rattle.run_grammar.specs.declared.standing.Standing.{Standing}
-use Rattle.run_grammar.specs.declared.question.Question.{Question}
 use Rattle.run_grammar.specs.declared.answer.Entry.{Entry}
 use Rattle.run_grammar.specs.Entry.{kind_of}
 use Rattle.run_grammar.specs.Standing.{State, standing, step, WellHanded, asked}

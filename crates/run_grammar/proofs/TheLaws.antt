@@ -8,7 +8,7 @@ use Rattle.run_grammar.specs.Standing.{State, standing, step, asked, WellHanded}
 use Rattle.run_grammar.specs.Grammar.{run}
 use Rattle.run_grammar.specs.Machine.{Position, Whole, begin, next, Asks, Accepts, after, Path}
 use Rattle.run_grammar.specs.Laws.{EachFits, IsRun, IsWhole, Begins, NoPrefix, OneQuestion, GoesOn}
-use Rattle.run_grammar.proofs.Finishing.{asked_kind, made, made_handed, made_fits}
+use Rattle.run_grammar.proofs.Finishing.{asked_kind, made, made_handed}
 use Rattle.run_grammar.proofs.Positions.{FineAt, fine_begin, word_coming, coming_word}
 use Rattle.run_grammar.proofs.Steps.{accepted, accepted_back}
 use Rattle.run_grammar.proofs.Rounds.{fine_run}

@@ -1,18 +1,16 @@
 -- How an entry changes what stands.
-use Rattle.std.specs.Prelude.{Bool, true, false, ℕ, ◌+◌, ◌-◌, ◌^◌, min, Option, None, Some, List, ◌++◌, codes, cond}
+use Rattle.std.specs.Prelude.{Bool, false, ℕ, ◌+◌, ◌-◌, ◌^◌, min, Option, None, Some, List, ◌++◌, codes, cond}
 use Rattle.std.specs.Fmt.{decimal}
 use Rattle.smithy_base.specs.declared.config.TimeoutConfig.{TimeoutConfig}
 use Rattle.smithy_base.specs.declared.context.InterceptorContext.{InterceptorContext}
 use Rattle.smithy_base.specs.declared.fault.FaultKind.{FaultKind}
 use Rattle.smithy_base.specs.declared.fault.FaultKind.TheVariants as faults
 use Rattle.smithy_base.specs.declared.fault.Outcome.{Outcome}
-use Rattle.smithy_base.specs.declared.fault.Outcome.TheVariants as outcomes
 use Rattle.smithy_base.specs.declared.hook.Hook.{Hook}
 use Rattle.run_grammar.specs.Writes.{writes_input, writes_request, writes_response, writes_outcome}
 use Rattle.smithy_base.specs.declared.http.Body.TheVariants as bodies
 use Rattle.smithy_base.specs.declared.http.HttpRequest.{HttpRequest}
 use Rattle.smithy_base.specs.declared.http.HttpResponse.{HttpResponse}
-use Rattle.smithy_base.specs.declared.identity.Endpoint.{Endpoint}
 use Rattle.smithy_base.specs.declared.intercept.Change.{Change}
 use Rattle.smithy_base.specs.declared.intercept.Change.TheVariants as changes
 use Rattle.smithy_base.specs.declared.intercept.HookAnswer.{HookAnswer}

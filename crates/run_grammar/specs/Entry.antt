@@ -1,5 +1,5 @@
 -- What an entry's question and answer are.
-use Rattle.std.specs.Prelude.{Bool, true, false, cond, Option, None, Some, is_some}
+use Rattle.std.specs.Prelude.{Bool, true, false, cond, Option, Some, is_some}
 use Rattle.run_grammar.specs.Writes.{writes_outcome}
 use Rattle.smithy_base.specs.declared.intercept.Change.{Change}
 use Rattle.smithy_base.specs.declared.intercept.Change.TheVariants as changes

@@ -4,7 +4,6 @@ use Rattle.run_grammar.specs.declared.kind.Role.{Role}
 use Rattle.smithy_base.specs.declared.hook.Hook.{Hook}
 use Rattle.run_grammar.specs.declared.kind.Kind.{Kind}
 use Rattle.run_grammar.specs.declared.answer.Answer.{Answer}
-use Rattle.run_grammar.specs.declared.standing.Standing.{Standing}
 use Rattle.run_grammar.specs.declared.answer.Entry.{Entry}
 use Rattle.smithy_base.specs.declared.kinds.StopPoint.{StopPoint}
 use Rattle.run_grammar.specs.Entry.{kind_of, fails, same_role}
