@@ -101,3 +101,6 @@ pub fn run<W: World>(
         Some(_) => Ok(None),
     }
 }
+
+#[cfg(test)]
+mod tests;
