@@ -1,0 +1,4 @@
+pub mod NoFloat
+pub mod OtherLength
+pub mod Shown
+pub mod Joined

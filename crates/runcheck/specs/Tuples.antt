@@ -1,0 +1,15 @@
+-- Arrays of a fixed length.
+use Rattle.std.specs.Prelude.{Option, Some, None}
+use Rattle.serde_json.specs.Data.{Data, Items, no_items, item}
+
+abbrev pub two_of : Items → Option (Data × Data)
+two_of (item a (item b no_items)) = Some (a, b)
+two_of _ = None
+
+abbrev pub three_of : Items → Option (Data × Data × Data)
+three_of (item a (item b (item c no_items))) = Some (a, b, c)
+three_of _ = None
+
+abbrev pub four_of : Items → Option (Data × Data × Data × Data)
+four_of (item a (item b (item c (item d no_items)))) = Some (a, b, c, d)
+four_of _ = None

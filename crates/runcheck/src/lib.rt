@@ -1,0 +1,15 @@
+//! The values of scripts and prints: each is read from JSON and printed as JSON, by one definition.
+#![tactic(auto)]
+
+pub mod answer;
+pub mod fault;
+pub mod forms;
+pub mod http;
+pub mod json;
+pub mod names;
+pub mod note;
+pub mod read;
+pub mod setting;
+
+pub use json::{Json, Row};
+pub use read::ReadError;

@@ -1,0 +1,4 @@
+pub mod Pieces
+pub mod Digits
+pub mod Lists
+pub mod Replays

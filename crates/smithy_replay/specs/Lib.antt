@@ -1,0 +1,9 @@
+pub mod Faults
+pub mod Moves
+pub mod MemoryParts
+pub mod Streams
+pub mod Status
+pub mod Words
+pub mod Script
+pub mod Replay
+pub mod Run

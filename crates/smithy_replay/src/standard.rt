@@ -1,0 +1,72 @@
+//! Sources and sinks over the standard library's readers and writers.
+ghost use Rattle.std.specs.Prelude.{◌≡◌, ◌≤◌, ◌<◌, length, None};
+
+use crate::sink::{Sink, Wrote};
+use crate::source::{Got, Source};
+use std::io::{Read, Write};
+
+/// A source over a reader. It doesn't tell the bytes that are left.
+#[derive(Drop)]
+pub struct StdSource<R> {
+    reader: R,
+    /// How many reads failed.
+    pub errors: u64,
+}
+
+impl<R> StdSource<R> {
+    pub fn new(reader: R) -> StdSource<R>
+        ensures { result.errors ≡ 0 }
+    {
+        StdSource { reader, errors: 0 }
+    }
+}
+
+impl<R: Read> Source for StdSource<R> {
+    ghost left = { λ _. None };
+
+    ghost faults = { λ s. s.errors };
+
+    fn read(&mut self, buffer: &mut [u8]) -> Got {
+        match self.reader.read(buffer) {
+            Ok(0) => Got::End,
+            Ok(count) => Got::Bytes(count),
+            Err(_) => {
+                self.errors = self.errors.saturating_add(1);
+                Got::Failed
+            }
+        }
+    }
+}
+
+/// A sink over a writer. It doesn't tell the bytes that were written. A write that takes nothing
+/// counts as an error.
+#[derive(Drop)]
+pub struct StdSink<W> {
+    writer: W,
+    /// How many writes failed.
+    pub errors: u64,
+}
+
+impl<W> StdSink<W> {
+    pub fn new(writer: W) -> StdSink<W>
+        ensures { result.errors ≡ 0 }
+    {
+        StdSink { writer, errors: 0 }
+    }
+}
+
+impl<W: Write> Sink for StdSink<W> {
+    ghost written = { λ _. None };
+
+    ghost faults = { λ s. s.errors };
+
+    fn write(&mut self, piece: &[u8]) -> Wrote {
+        match self.writer.write(piece) {
+            Ok(0) | Err(_) => {
+                self.errors = self.errors.saturating_add(1);
+                Wrote::Failed
+            }
+            Ok(count) => Wrote::Took(count),
+        }
+    }
+}
