@@ -6,7 +6,7 @@ use Rattle.smithy_replay.proofs.run.print_of_script.Goals as goal
 
 pub returns : goal.returns
 returns c = (
-  c.invoke-answer.new._world.log,
+  c.invoke-answer.new.world.log,
   c.in_ok-ending.ending,
   grown_within _ c.in_ok-world.world.log _ c.in_ok-world.ensures.log c.invoke-answer.ensures,
   c.in_ok-text.ensures ∙ ap (λ (l : List Entry). replay_text c.args.script.head l c.in_ok-ending.ending) (c.as_slice.ensures ∙ c.entries.ensures),
