@@ -1,5 +1,5 @@
 -- The names that stand in scripts and prints.
-use Rattle.std.specs.Prelude.{ℕ, List, [], ◌∷◌, ◌++◌, codes}
+use Rattle.std.specs.Prelude.{ℕ, List, [], ◌++◌, codes}
 use Rattle.smithy_base.specs.declared.config.RetryMode.{RetryMode}
 use Rattle.smithy_base.specs.declared.config.RetryMode.TheVariants as modes
 use Rattle.smithy_base.specs.declared.config.ReconnectMode.{ReconnectMode}

@@ -1,7 +1,7 @@
 -- Numbers and texts.
-use Rattle.std.specs.Prelude.{ℕ, ◌^◌, List, Bool, true, Option, Some, None, nat_lt, if◌then◌else◌, option_map, option_and_then}
-use Rattle.serde_json.specs.Data.{Data, null, boolean, number, string, unsigned, Items}
-use Rattle.serde_json.specs.Find.{as_number, as_u64, as_str, as_array, as_bool, as_null}
+use Rattle.std.specs.Prelude.{ℕ, Option, Some, None, nat_lt, if◌then◌else◌, option_and_then}
+use Rattle.serde_json.specs.Data.{Data}
+use Rattle.serde_json.specs.Find.{as_number, as_u64, as_array}
 use Rattle.runcheck.specs.Tuples.{two_of, three_of, four_of}
 
 abbrev pub number_at : Data → Option ℕ

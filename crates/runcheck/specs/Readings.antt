@@ -1,15 +1,14 @@
 -- Which value JSON spells, for the values of a first script.
-use Rattle.std.specs.Prelude.{ℕ, ◌^◌, List, [], ◌∷◌, Bool, true, false, ◌&&◌, Option, Some, None, codes, find, nat_le, nat_eq, option_map, option_and_then, if◌then◌else◌}
+use Rattle.std.specs.Prelude.{ℕ, ◌^◌, List, [], ◌∷◌, Bool, ◌&&◌, Option, Some, None, codes, nat_le, nat_eq, option_map, if◌then◌else◌}
 use Rattle.std.specs.Cmp.Lexicographic.{pointwise}
 use Rattle.std.specs.List.{list_all}
-use Rattle.serde_json.specs.Data.{Data, null, boolean, number, string, array, object, Items, no_items, item}
+use Rattle.serde_json.specs.Data.{Data, null, array, Items, no_items, item}
 use Rattle.serde_json.specs.Find.{as_str, as_array}
 use Rattle.smithy_base.specs.Layer.{entry}
 use Rattle.smithy_base.specs.Setting.{key_of}
 use Rattle.smithy_base.specs.declared.config.TimeoutConfig.{TimeoutConfig}
 use Rattle.smithy_base.specs.declared.fault.Outcome.{Outcome}
 use Rattle.smithy_base.specs.declared.fault.Outcome.TheVariants as outcomes
-use Rattle.smithy_base.specs.declared.http.Body.{Body}
 use Rattle.smithy_base.specs.declared.http.Body.TheVariants as bodies
 use Rattle.smithy_base.specs.declared.http.HttpRequest.{HttpRequest}
 use Rattle.smithy_base.specs.declared.http.HttpResponse.{HttpResponse}
@@ -24,7 +23,6 @@ use Rattle.run_grammar.specs.declared.answer.Answer.TheVariants as answers
 use Rattle.run_grammar.specs.declared.answer.Chosen.{Chosen}
 use Rattle.run_grammar.specs.declared.kind.Kind.{Kind}
 use Rattle.run_grammar.specs.declared.kind.Kind.TheVariants as kinds
-use Rattle.runcheck.specs.Names.{kind_text}
 use Rattle.runcheck.specs.Plain.{number_at, number_below, pair_at, triple_at, quadruple_at}
 use Rattle.runcheck.specs.Reading.{◌>>=◌}
 

@@ -1,8 +1,8 @@
-use Rattle.std.proofs.Common.{◌≡◌, ◌≢◌, List, [], ◌∷◌, refl, sym, ◌∙◌, ap}
+use Rattle.std.proofs.Common.{◌≡◌, ◌≢◌, List, [], ◌∷◌, refl, ◌∙◌, ap}
 use Rattle.serde_json.specs.Data.{Data, array}
 use Rattle.serde_json.specs.View.{items_of}
 use Rattle.smithy_base.specs.HeaderList.{HeaderList}
-use Rattle.runcheck.specs.Values.{headers_data, header_data}
+use Rattle.runcheck.specs.Values.{headers_data}
 use Rattle.runcheck.proofs.http.print_headers.Goals as goal
 
 -- what has no header has an empty array
