@@ -1,7 +1,7 @@
 //! What no clause says: that the calls come to their results, and the statuses' rows.
 
 use crate::memory::{MemorySink, MemorySource, SureSink, SureSource};
-use crate::run::{HELP, VERSION, run, run_alone};
+use crate::run::{HELP, VERSION, run};
 use crate::standard::{StdSink, StdSource};
 use crate::status::Status;
 use smithy_base::{List, Text};
@@ -110,7 +110,7 @@ fn other_inputs_are_not_built(rt: HostRuntime) -> Result<(), Fail> {
         let words = words_of(rt.alloc(), "replay")?;
         let mut source = SureSource::new(text.as_bytes().to_vec(rt.alloc())?);
         let mut sink = SureSink::new(rt.alloc());
-        let status = run_alone(rt.alloc(), words.as_slice(), &mut source, &mut sink);
+        let status = run(&rt, rt.alloc(), words.as_slice(), &mut source, &mut sink);
         assert_eq!(rt; status, Status::NotBuilt, "at {text}");
         assert_eq!(rt; sink.bytes.len(), 0, "at {text}");
     }
