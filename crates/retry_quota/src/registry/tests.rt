@@ -77,102 +77,122 @@ fn default_partition(name: &'static str) -> RetryPartition {
     RetryPartition::new(Text::from_static(name))
 }
 
-// A custom partition `test`, whose bucket may be set.
+// A custom partition `test`, whose numbers may be set.
 fn custom_partition(
     registry: &mut Registry<OpenLimiter>,
     alloc: Global,
     bucket: Option<u32>,
-) -> Option<RetryPartition> {
+) -> Result<RetryPartition, OutOfMemory> {
     let mut builder = RetryPartition::custom(Text::from_static("test"));
     if let Some(bucket) = bucket {
         builder = builder.token_bucket(bucket).client_rate_limiter(9);
     }
-    builder.build(alloc, registry).ok()
+    builder.build(alloc, registry).map_err(|refused| refused.1)
 }
 
-// A registry of a bucket of 20 tokens and one of 10 with a reward of two tokens.
-fn two_buckets(alloc: Global) -> Result<(Registry<OpenLimiter>, u32, u32), OutOfMemory> {
+fn custom_numbers(
+    registry: &mut Registry<OpenLimiter>,
+    alloc: Global,
+    bucket: Option<u32>,
+) -> Result<(u32, u32), OutOfMemory> {
+    let custom = custom_partition(registry, alloc, bucket)?;
+    numbers(registry, alloc, &custom)
+}
+
+// A bucket of 20 tokens, and one of 10 with a reward of two tokens.
+fn two_buckets(alloc: Global) -> Result<Registry<OpenLimiter>, OutOfMemory> {
     let mut registry = Registry::new(alloc)?;
     let plain = TokenBucket::builder().capacity(20).build();
-    let first = registry.add_bucket(alloc, plain)?;
+    let _ = registry.add_bucket(alloc, plain)?;
     let rewarded = TokenBucket::builder()
         .capacity(10)
         .success_reward(2000)
         .build();
-    let second = registry.add_bucket(alloc, rewarded)?;
-    Ok((registry, first, second))
+    let _ = registry.add_bucket(alloc, rewarded)?;
+    Ok(registry)
+}
+
+// Three acquires: one is released, one forgotten, and the last stays held.
+fn spend(registry: &mut Registry<OpenLimiter>, bucket: u32) {
+    let _ = acquire_and_release(registry, bucket);
+    let _ = acquire_and_forget(registry, bucket);
+    reward(registry, bucket);
+    regenerate(registry, bucket);
+    let _ = acquire(registry, bucket);
+}
+
+fn spent(alloc: Global) -> Result<[Option<[u64; 5]>; 3], OutOfMemory> {
+    let mut registry = two_buckets(alloc)?;
+    spend(&mut registry, 1);
+    spend(&mut registry, 2);
+    Ok([sums(&registry, 0), sums(&registry, 1), sums(&registry, 2)])
 }
 
 #[test]
-fn each_bucket_is_spent_by_its_number(rt: HostRuntime) -> Result<(), Fail> {
-    let (mut registry, first, second) = two_buckets(rt.alloc())?;
-    assert_eq!(rt; (first, second), (0, 1));
-    assert!(rt; acquire_and_release(&mut registry, 1));
-    assert_eq!(rt; sums(&registry, 1), Some([10, 0, 10, 0, 0]));
-    assert!(rt; acquire_and_forget(&mut registry, 1));
-    assert_eq!(rt; sums(&registry, 1), Some([10, 0, 5, 0, 5]));
-    reward(&mut registry, 1);
-    regenerate(&mut registry, 1);
-    let permit = acquire(&mut registry, 1).ok_or("refused")?;
-    assert_eq!(rt; (permit.bucket, permit.amount), (1, 5));
-    assert_eq!(rt; sums(&registry, 1), Some([10, 3, 3, 5, 5]));
-    assert_eq!(rt; sums(&registry, 0), Some([20, 0, 20, 0, 0]));
-    assert_eq!(rt; sums(&registry, 2), None);
-    assert_eq!(rt; price(&registry, 1), Some((10, 2000)));
-    Ok(())
+fn each_bucket_is_spent_by_its_number(rt: HostRuntime) {
+    let expected = [Some([20, 0, 20, 0, 0]), Some([10, 3, 3, 5, 5]), None];
+    assert_eq!(rt; spent(rt.alloc()), Ok(expected));
+}
+
+fn second_price(alloc: Global) -> Result<Option<(u32, u64)>, OutOfMemory> {
+    Ok(price(&two_buckets(alloc)?, 1))
 }
 
 #[test]
-fn a_foreign_permit_changes_nothing(rt: HostRuntime) -> Result<(), Fail> {
-    let (mut registry, _, _) = two_buckets(rt.alloc())?;
-    assert!(rt; acquire(&mut registry, 1).is_some());
+fn a_price_is_that_of_the_bucket(rt: HostRuntime) {
+    assert_eq!(rt; second_price(rt.alloc()), Ok(Some((10, 2000))));
+}
+
+// The second bucket's sums with 5 tokens held, after a release and a forget of this permit.
+fn after_foreign(alloc: Global, bucket: u32, amount: u32) -> Result<Option<[u64; 5]>, OutOfMemory> {
+    let mut registry = two_buckets(alloc)?;
+    let _ = acquire(&mut registry, 1);
+    registry.release(Permit { bucket, amount });
+    registry.forget(Permit { bucket, amount });
+    Ok(sums(&registry, 1))
+}
+
+#[test]
+fn a_foreign_permit_changes_nothing(rt: HostRuntime) {
     for (bucket, amount) in [(1, 6), (7, 0), (7, 5)] {
-        registry.release(Permit { bucket, amount });
-        registry.forget(Permit { bucket, amount });
-        assert_eq!(rt; sums(&registry, 1), Some([10, 0, 5, 5, 0]));
+        let after = after_foreign(rt.alloc(), bucket, amount);
+        assert_eq!(rt; after, Ok(Some([10, 0, 5, 5, 0])));
     }
-    Ok(())
 }
 
-#[test]
-fn an_open_limiter_and_one_that_is_not_there_refuse_nothing(rt: HostRuntime) -> Result<(), Fail> {
-    let alloc = rt.alloc();
+fn limiter_replies(alloc: Global) -> Result<[Result<(), u64>; 2], OutOfMemory> {
     let mut registry = Registry::<OpenLimiter>::new(alloc)?;
-    assert_eq!(rt; registry.add_limiter(alloc, OpenLimiter::zero())?, 0);
-    for limiter in [0, 1] {
-        registry.limiter_update(limiter, 5, true);
-        let reply = registry.limiter_acquire(limiter, 6, RequestReason::Retry);
-        assert_eq!(rt; reply, Ok(()));
-    }
-    Ok(())
+    let _ = registry.add_limiter(alloc, OpenLimiter::zero())?;
+    registry.limiter_update(0, 5, true);
+    registry.limiter_update(1, 5, true);
+    Ok([
+        registry.limiter_acquire(0, 6, RequestReason::Retry),
+        registry.limiter_acquire(1, 6, RequestReason::Retry),
+    ])
 }
 
 #[test]
-fn a_name_keeps_its_bucket_and_its_limiter(rt: HostRuntime) -> Result<(), Fail> {
-    let alloc = rt.alloc();
-    let (mut registry, _, _) = two_buckets(alloc)?;
+fn an_open_limiter_and_one_that_is_not_there_refuse_nothing(rt: HostRuntime) {
+    assert_eq!(rt; limiter_replies(rt.alloc()), Ok([Ok(()), Ok(())]));
+}
+
+// The numbers of a default partition twice, of two custom ones, and of one that was given its own.
+fn named(alloc: Global) -> Result<[(u32, u32); 5], OutOfMemory> {
+    let mut registry = two_buckets(alloc)?;
     let test = default_partition("test");
-    assert_eq!(rt; numbers(&mut registry, alloc, &test)?, (2, 0));
-    assert_eq!(rt; numbers(&mut registry, alloc, &test)?, (2, 0));
-    assert_eq!(rt; sums(&registry, 2), Some([500, 0, 500, 0, 0]));
-    for expected in [(3, 1), (4, 2)] {
-        let custom = custom_partition(&mut registry, alloc, None).ok_or("no memory")?;
-        assert_eq!(rt; numbers(&mut registry, alloc, &custom)?, expected);
-    }
-    let other = default_partition("other");
-    assert_eq!(rt; numbers(&mut registry, alloc, &other)?, (5, 3));
-    assert_eq!(rt; numbers(&mut registry, alloc, &test)?, (2, 0));
-    Ok(())
+    Ok([
+        numbers(&mut registry, alloc, &test)?,
+        numbers(&mut registry, alloc, &test)?,
+        custom_numbers(&mut registry, alloc, None)?,
+        custom_numbers(&mut registry, alloc, None)?,
+        custom_numbers(&mut registry, alloc, Some(7))?,
+    ])
 }
 
 #[test]
-fn a_custom_partition_keeps_the_numbers_it_was_given(rt: HostRuntime) -> Result<(), Fail> {
-    let alloc = rt.alloc();
-    let (mut registry, _, _) = two_buckets(alloc)?;
-    let custom = custom_partition(&mut registry, alloc, Some(7)).ok_or("no memory")?;
-    assert_eq!(rt; numbers(&mut registry, alloc, &custom.clone()?)?, (7, 9));
-    assert_eq!(rt; sums(&registry, 2), None);
-    Ok(())
+fn a_partition_keeps_its_bucket_and_its_limiter(rt: HostRuntime) {
+    let expected = [(2, 0), (2, 0), (3, 1), (4, 2), (7, 9)];
+    assert_eq!(rt; named(rt.alloc()), Ok(expected));
 }
 
 fn hash_of(partition: &RetryPartition) -> u64 {
@@ -186,19 +206,27 @@ fn compared(first: &RetryPartition, second: &RetryPartition) -> (bool, bool) {
     (first == second, hash_of(first) == hash_of(second))
 }
 
+fn two_customs(alloc: Global) -> Result<(RetryPartition, RetryPartition), OutOfMemory> {
+    let mut registry = two_buckets(alloc)?;
+    let first = custom_partition(&mut registry, alloc, None)?;
+    let second = custom_partition(&mut registry, alloc, Some(5))?;
+    Ok((first.clone()?, second))
+}
+
 #[test]
 fn a_default_and_a_custom_partition_differ(rt: HostRuntime) -> Result<(), Fail> {
-    let alloc = rt.alloc();
-    let (mut registry, _, _) = two_buckets(alloc)?;
-    let custom = custom_partition(&mut registry, alloc, None).ok_or("no memory")?;
-    let other = custom_partition(&mut registry, alloc, Some(5)).ok_or("no memory")?;
+    let (custom, other) = two_customs(rt.alloc())?;
     let test = default_partition("test");
-    let same = RetryPartition::new(Text::from_str(alloc, "test")?);
-    assert_eq!(rt; compared(&test, &same), (true, true));
+    assert_eq!(rt; compared(&test, &default_partition("test")), (true, true));
     assert_eq!(rt; compared(&custom, &other), (true, true));
     assert_eq!(rt; compared(&test, &custom), (false, false));
     assert_eq!(rt; compared(&test, &default_partition("tes")), (false, false));
-    let text = format!(in alloc; "{test} {custom}")?;
-    assert_eq!(rt; text.as_str(), "test test");
+    Ok(())
+}
+
+#[test]
+fn a_partition_prints_its_name(rt: HostRuntime) -> Result<(), Fail> {
+    let text = format!(in rt.alloc(); "{}", default_partition("test"))?;
+    assert_eq!(rt; text.as_str(), "test");
     Ok(())
 }
