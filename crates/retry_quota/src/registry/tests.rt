@@ -2,136 +2,197 @@ use super::*;
 use crate::OpenLimiter;
 use smithy_base::Text;
 use std::hash::{DefaultHasher, Hash, Hasher};
-use std::process::Abort;
 use std::test::Fail;
 
-// Spends from a bucket through the trait alone: a grant, a release, a second grant, a forget.
-fn spend<Q: Quota>(rt: &impl Abort, quota: &mut Q, bucket: u32) {
-    assert!(rt; quota.has(bucket));
-    if let Some(permit) = quota.acquire(bucket, ErrorKind::ServerError, 0) {
-        quota.release(permit);
+// Each call once through the trait alone, where the bucket is there.
+
+fn acquire<Q: Quota>(quota: &mut Q, bucket: u32) -> Option<Q::Permit> {
+    if !quota.has(bucket) {
+        return None;
     }
-    assert!(rt; quota.has(bucket));
-    if let Some(permit) = quota.acquire(bucket, ErrorKind::ServerError, 0) {
-        quota.forget(permit);
+    quota.acquire(bucket, ErrorKind::ServerError, 9)
+}
+
+fn acquire_and_release<Q: Quota>(quota: &mut Q, bucket: u32) -> bool {
+    let Some(permit) = acquire(quota, bucket) else {
+        return false;
+    };
+    quota.release(permit);
+    true
+}
+
+fn acquire_and_forget<Q: Quota>(quota: &mut Q, bucket: u32) -> bool {
+    let Some(permit) = acquire(quota, bucket) else {
+        return false;
+    };
+    quota.forget(permit);
+    true
+}
+
+fn reward<Q: Quota>(quota: &mut Q, bucket: u32) {
+    if quota.has(bucket) {
+        quota.reward_success(bucket);
     }
 }
 
-fn held(registry: &Registry<OpenLimiter>, bucket: u32) -> Option<Sums> {
-    if registry.has(bucket) {
-        registry.sums(bucket)
-    } else {
-        None
+fn regenerate<Q: Quota>(quota: &mut Q, bucket: u32) {
+    if quota.has(bucket) {
+        quota.regenerate_a_token(bucket);
     }
 }
 
-#[test]
-fn each_bucket_is_spent_by_its_number(rt: HostRuntime) -> Result<(), Fail> {
-    let alloc = rt.alloc();
-    let mut registry = Registry::<OpenLimiter>::new(alloc)?;
-    assert!(rt; !registry.has(0));
-    assert_eq!(rt; registry.add_bucket(alloc, TokenBucket::new(20)?)?, 0);
+fn price<Q: Quota>(quota: &Q, bucket: u32) -> Option<(u32, u64)> {
+    if !quota.has(bucket) {
+        return None;
+    }
+    let cost = quota.cost(bucket, ErrorKind::TransientError);
+    Some((cost, quota.success_reward(bucket)))
+}
+
+fn sums<Q: Quota>(quota: &Q, bucket: u32) -> Option<[u64; 5]> {
+    if !quota.has(bucket) {
+        return None;
+    }
+    let sums = quota.sums(bucket)?;
+    Some([
+        sums.capacity,
+        sums.granted,
+        sums.available,
+        sums.held,
+        sums.forgotten,
+    ])
+}
+
+fn numbers<Q: Quota>(
+    quota: &mut Q,
+    alloc: Global,
+    partition: &RetryPartition,
+) -> Result<(u32, u32), OutOfMemory> {
+    let bucket = quota.bucket_for(alloc, partition, None)?;
+    let limiter = quota.limiter_for(alloc, partition, 0)?;
+    Ok((bucket, limiter))
+}
+
+fn default_partition(name: &'static str) -> RetryPartition {
+    RetryPartition::new(Text::from_static(name))
+}
+
+// A custom partition `test`, whose numbers may be set.
+fn custom_partition(
+    registry: &mut Registry<OpenLimiter>,
+    alloc: Global,
+    bucket: Option<u32>,
+) -> Result<RetryPartition, OutOfMemory> {
+    let mut builder = RetryPartition::custom(Text::from_static("test"));
+    if let Some(bucket) = bucket {
+        builder = builder.token_bucket(bucket).client_rate_limiter(9);
+    }
+    builder.build(alloc, registry).map_err(|refused| refused.1)
+}
+
+fn custom_numbers(
+    registry: &mut Registry<OpenLimiter>,
+    alloc: Global,
+    bucket: Option<u32>,
+) -> Result<(u32, u32), OutOfMemory> {
+    let custom = custom_partition(registry, alloc, bucket)?;
+    numbers(registry, alloc, &custom)
+}
+
+// A bucket of 20 tokens, and one of 10 with a reward of two tokens.
+fn two_buckets(alloc: Global) -> Result<Registry<OpenLimiter>, OutOfMemory> {
+    let mut registry = Registry::new(alloc)?;
+    let plain = TokenBucket::builder().capacity(20).build();
+    let _ = registry.add_bucket(alloc, plain)?;
     let rewarded = TokenBucket::builder()
         .capacity(10)
         .success_reward(2000)
         .build();
-    assert_eq!(rt; registry.add_bucket(alloc, rewarded)?, 1);
-    spend(&rt, &mut registry, 1);
-    let sums = held(&registry, 1).ok_or("no sums")?;
-    assert_eq!(rt; (sums.available, sums.held, sums.forgotten), (5, 0, 5));
-    assert_eq!(rt; held(&registry, 0).ok_or("no sums")?.available, 20);
-    assert!(rt; registry.has(1));
-    assert_eq!(rt; registry.cost(1, ErrorKind::TransientError), 10);
-    assert_eq!(rt; registry.success_reward(1), 2000);
-    registry.reward_success(1);
-    assert!(rt; registry.has(1));
-    registry.regenerate_a_token(1);
-    assert!(rt; registry.has(1));
-    let permit = registry
-        .acquire(1, ErrorKind::ServerError, 9)
-        .ok_or("refused")?;
-    assert_eq!(rt; (permit.bucket, permit.amount), (1, 5));
-    let sums = held(&registry, 1).ok_or("no sums")?;
-    assert_eq!(rt; (sums.granted, sums.available, sums.held), (3, 3, 5));
-    Ok(())
+    let _ = registry.add_bucket(alloc, rewarded)?;
+    Ok(registry)
+}
+
+// Three acquires: one is released, one forgotten, and the last stays held.
+fn spend(registry: &mut Registry<OpenLimiter>, bucket: u32) {
+    let _ = acquire_and_release(registry, bucket);
+    let _ = acquire_and_forget(registry, bucket);
+    reward(registry, bucket);
+    regenerate(registry, bucket);
+    let _ = acquire(registry, bucket);
+}
+
+fn spent(alloc: Global) -> Result<[Option<[u64; 5]>; 3], OutOfMemory> {
+    let mut registry = two_buckets(alloc)?;
+    spend(&mut registry, 1);
+    spend(&mut registry, 2);
+    Ok([sums(&registry, 0), sums(&registry, 1), sums(&registry, 2)])
 }
 
 #[test]
-fn a_foreign_permit_changes_nothing(rt: HostRuntime) -> Result<(), Fail> {
-    let alloc = rt.alloc();
-    let mut registry = Registry::<OpenLimiter>::new(alloc)?;
-    let bucket = registry.add_bucket(alloc, TokenBucket::default())?;
-    assert!(rt; registry.has(bucket));
-    let permit = registry.acquire(bucket, ErrorKind::ServerError, 0);
-    assert!(rt; permit.is_some());
-    let before = held(&registry, bucket);
-    for (number, amount) in [(bucket, 6), (7, 0), (7, 5)] {
-        registry.release(Permit {
-            bucket: number,
-            amount,
-        });
-        registry.forget(Permit {
-            bucket: number,
-            amount,
-        });
-        assert_eq!(rt; held(&registry, bucket), before);
-    }
-    Ok(())
+fn each_bucket_is_spent_by_its_number(rt: HostRuntime) {
+    let expected = [Some([20, 0, 20, 0, 0]), Some([10, 3, 3, 5, 5]), None];
+    assert_eq!(rt; spent(rt.alloc()), Ok(expected));
+}
+
+fn second_price(alloc: Global) -> Result<Option<(u32, u64)>, OutOfMemory> {
+    Ok(price(&two_buckets(alloc)?, 1))
 }
 
 #[test]
-fn an_open_limiter_and_one_that_is_not_there_refuse_nothing(rt: HostRuntime) -> Result<(), Fail> {
-    let alloc = rt.alloc();
-    let mut registry = Registry::<OpenLimiter>::new(alloc)?;
-    assert_eq!(rt; registry.add_limiter(alloc, OpenLimiter::at(5))?, 0);
-    assert_eq!(rt; registry.add_limiter(alloc, OpenLimiter::zero())?, 1);
-    for limiter in [0, 1, 2] {
-        registry.limiter_update(limiter, 5, true);
-        let reply = registry.limiter_acquire(limiter, 6, RequestReason::Retry);
-        assert_eq!(rt; reply, Ok(()));
-    }
-    Ok(())
+fn a_price_is_that_of_the_bucket(rt: HostRuntime) {
+    assert_eq!(rt; second_price(rt.alloc()), Ok(Some((10, 2000))));
+}
+
+// The second bucket's sums with 5 tokens held, after a release and a forget of this permit.
+fn after_foreign(alloc: Global, bucket: u32, amount: u32) -> Result<Option<[u64; 5]>, OutOfMemory> {
+    let mut registry = two_buckets(alloc)?;
+    let _ = acquire(&mut registry, 1);
+    registry.release(Permit { bucket, amount });
+    registry.forget(Permit { bucket, amount });
+    Ok(sums(&registry, 1))
 }
 
 #[test]
-fn a_name_keeps_its_bucket_and_its_limiter(rt: HostRuntime) -> Result<(), Fail> {
-    let alloc = rt.alloc();
+fn a_foreign_permit_changes_nothing(rt: HostRuntime) {
+    for (bucket, amount) in [(1, 6), (7, 0), (7, 5)] {
+        let after = after_foreign(rt.alloc(), bucket, amount);
+        assert_eq!(rt; after, Ok(Some([10, 0, 5, 5, 0])));
+    }
+}
+
+fn limiter_replies(alloc: Global) -> Result<[Result<(), u64>; 2], OutOfMemory> {
     let mut registry = Registry::<OpenLimiter>::new(alloc)?;
-    assert_eq!(rt; registry.add_bucket(alloc, TokenBucket::new(1)?)?, 0);
-    assert_eq!(rt; registry.add_bucket(alloc, TokenBucket::new(2)?)?, 1);
-    let test = RetryPartition::new(Text::from_static("test"));
-    let other = RetryPartition::new(Text::from_static("other"));
-    for _ in 0..2 {
-        assert_eq!(rt; registry.bucket_for(alloc, &test, None)?, 2);
-        assert_eq!(rt; registry.limiter_for(alloc, &test, 0)?, 0);
-    }
-    let sums = held(&registry, 2).ok_or("no sums")?;
-    assert_eq!(rt; (sums.capacity, sums.available), (500, 500));
-    for (number, limiter) in [(3, 1), (4, 2)] {
-        let built = RetryPartition::custom(Text::from_static("test")).build(alloc, &mut registry);
-        let custom = built.map_err(|_| "no memory")?;
-        assert_eq!(rt; registry.bucket_for(alloc, &custom, None)?, number);
-        assert_eq!(rt; registry.limiter_for(alloc, &custom, 0)?, limiter);
-    }
-    assert_eq!(rt; registry.bucket_for(alloc, &other, None)?, 5);
-    assert_eq!(rt; registry.limiter_for(alloc, &other, 0)?, 3);
-    assert!(rt; registry.has(5) && !registry.has(6));
-    Ok(())
+    let _ = registry.add_limiter(alloc, OpenLimiter::zero())?;
+    registry.limiter_update(0, 5, true);
+    registry.limiter_update(1, 5, true);
+    Ok([
+        registry.limiter_acquire(0, 6, RequestReason::Retry),
+        registry.limiter_acquire(1, 6, RequestReason::Retry),
+    ])
 }
 
 #[test]
-fn a_custom_partition_keeps_the_numbers_it_was_given(rt: HostRuntime) -> Result<(), Fail> {
-    let alloc = rt.alloc();
-    let mut registry = Registry::<OpenLimiter>::new(alloc)?;
-    let built = RetryPartition::custom(Text::from_static("test"))
-        .token_bucket(7)
-        .client_rate_limiter(9)
-        .build(alloc, &mut registry);
-    let custom = built.map_err(|_| "no memory")?.clone()?;
-    assert_eq!(rt; registry.bucket_for(alloc, &custom, None)?, 7);
-    assert_eq!(rt; registry.limiter_for(alloc, &custom, 0)?, 9);
-    assert!(rt; !registry.has(0));
-    Ok(())
+fn an_open_limiter_and_one_that_is_not_there_refuse_nothing(rt: HostRuntime) {
+    assert_eq!(rt; limiter_replies(rt.alloc()), Ok([Ok(()), Ok(())]));
+}
+
+// The numbers of a default partition twice, of two custom ones, and of one that was given its own.
+fn named(alloc: Global) -> Result<[(u32, u32); 5], OutOfMemory> {
+    let mut registry = two_buckets(alloc)?;
+    let test = default_partition("test");
+    Ok([
+        numbers(&mut registry, alloc, &test)?,
+        numbers(&mut registry, alloc, &test)?,
+        custom_numbers(&mut registry, alloc, None)?,
+        custom_numbers(&mut registry, alloc, None)?,
+        custom_numbers(&mut registry, alloc, Some(7))?,
+    ])
+}
+
+#[test]
+fn a_partition_keeps_its_bucket_and_its_limiter(rt: HostRuntime) {
+    let expected = [(2, 0), (2, 0), (3, 1), (4, 2), (7, 9)];
+    assert_eq!(rt; named(rt.alloc()), Ok(expected));
 }
 
 fn hash_of(partition: &RetryPartition) -> u64 {
@@ -140,26 +201,32 @@ fn hash_of(partition: &RetryPartition) -> u64 {
     hasher.finish()
 }
 
+// Whether the two are equal, and whether their hashes are.
+fn compared(first: &RetryPartition, second: &RetryPartition) -> (bool, bool) {
+    (first == second, hash_of(first) == hash_of(second))
+}
+
+fn two_customs(alloc: Global) -> Result<(RetryPartition, RetryPartition), OutOfMemory> {
+    let mut registry = two_buckets(alloc)?;
+    let first = custom_partition(&mut registry, alloc, None)?;
+    let second = custom_partition(&mut registry, alloc, Some(5))?;
+    Ok((first.clone()?, second))
+}
+
 #[test]
 fn a_default_and_a_custom_partition_differ(rt: HostRuntime) -> Result<(), Fail> {
-    let alloc = rt.alloc();
-    let mut registry = Registry::<OpenLimiter>::new(alloc)?;
-    let built = RetryPartition::custom(Text::from_static("test")).build(alloc, &mut registry);
-    let custom = built.map_err(|_| "no memory")?;
-    let built = RetryPartition::custom(Text::from_static("test"))
-        .token_bucket(5)
-        .build(alloc, &mut registry);
-    let other = built.map_err(|_| "no memory")?;
-    let test = RetryPartition::new(Text::from_static("test"));
-    let same = RetryPartition::new(Text::from_str(alloc, "test")?);
-    assert!(rt; test == same && custom == other && test != custom);
-    assert!(rt; test != RetryPartition::new(Text::from_static("tes")));
-    assert_eq!(rt; hash_of(&test), hash_of(&same));
-    assert_eq!(rt; hash_of(&custom), hash_of(&other));
-    assert_ne!(rt; hash_of(&test), hash_of(&custom));
-    for partition in [&test, &custom] {
-        let text = format!(in alloc; "{partition}")?;
-        assert_eq!(rt; text.as_str(), "test");
-    }
+    let (custom, other) = two_customs(rt.alloc())?;
+    let test = default_partition("test");
+    assert_eq!(rt; compared(&test, &default_partition("test")), (true, true));
+    assert_eq!(rt; compared(&custom, &other), (true, true));
+    assert_eq!(rt; compared(&test, &custom), (false, false));
+    assert_eq!(rt; compared(&test, &default_partition("tes")), (false, false));
+    Ok(())
+}
+
+#[test]
+fn a_partition_prints_its_name(rt: HostRuntime) -> Result<(), Fail> {
+    let text = format!(in rt.alloc(); "{}", default_partition("test"))?;
+    assert_eq!(rt; text.as_str(), "test");
     Ok(())
 }
