@@ -1,5 +1,5 @@
 -- A change at one place of a list, against the words of the code.
-use Rattle.std.proofs.Common.{◌≡◌, ◌∙◌, ap, refl, ℕ, zero, suc, ◌<◌, List, [], ◌∷◌, ◌++◌, ◌≢◌, length, arith, Option, Some, None, ◌≤◌, Bool, false, true, nat_lt}
+use Rattle.std.proofs.Common.{◌≡◌, ◌∙◌, ap, refl, ℕ, zero, suc, ◌<◌, List, [], ◌∷◌, ◌++◌, ◌≢◌, length, arith, Some, None, ◌≤◌, Bool, false, true, nat_lt}
 use Rattle.std.proofs.lemmas.Bool.{false≢true, leb-true, lt-ltb}
 use Rattle.std.specs.Prelude.{slice_set, slice_get, slice_index_or}
 use Rattle.std.specs.Option.{option_map_or}

@@ -1,22 +1,20 @@
 -- What the registry's calls do to what it means.
-use Rattle.std.proofs.Common.{◌≡◌, ◌∙◌, ap, refl, sym, subst, ℕ, suc, ◌<◌, ◌≤◌, ◌-◌, ◌+◌, Bool, true, false, if◌then◌else◌, List, [], ◌∷◌, ◌++◌, ◌≢◌, length, length-append, arith, Option, Some, None, nat_lt, nat_le}
+use Rattle.std.proofs.Common.{◌≡◌, ◌∙◌, ap, refl, sym, subst, ℕ, suc, ◌<◌, ◌≤◌, ◌-◌, ◌+◌, true, false, if◌then◌else◌, List, [], ◌∷◌, ◌++◌, ◌≢◌, length, length-append, arith, Option, Some, None, nat_lt, nat_le}
 use Rattle.std.specs.Prelude.{slice_set, slice_get, slice_index_or, IfSome, IsTrue, MatchOption, is_some}
 use Rattle.std.specs.Option.{option_map_or}
 use Rattle.std.proofs.lemmas.Bool.{leb-true}
 use Rattle.std.proofs.lemmas.Bool.Decides.{nat_tests}
-use Rattle.std.specs.Bool.{beq}
 use Rattle.std.specs.Cmp.{and_equiv, on_equiv, bool_eq_equiv}
 use Rattle.std.specs.Cmp.Lexicographic.{nat_list_eq_equiv}
 use Rattle.std.specs.Map.{lookup}
 use Rattle.smithy_base.specs.Partition.{same_partition}
-use Rattle.smithy_base.specs.declared.partition.CustomPartition.{CustomPartition}
 use Rattle.smithy_base.specs.declared.partition.RetryPartition.{RetryPartition}
 use Rattle.retry_quota.proofs.TableLemmas.{lookup-new, lookup-other}
 use Rattle.std.proofs.lemmas.Option.{slice_get_read}
 use Rattle.smithy_base.specs.declared.kinds.ErrorKind.{ErrorKind}
 use Rattle.retry_quota.specs.Book.{Book, cost_of, release, forget, plain_book}
 use Rattle.retry_quota.specs.History.{Step, Reply, Done, Release, Forget, after, reply_to}
-use Rattle.retry_quota.specs.Meaning.{Meaning, KeepsBuckets, IsKept, BookSteps, Steps, Settles, ChangesLimiter, AddsBucket, AnswersBucket, AddsLimiter, AnswersLimiter}
+use Rattle.retry_quota.specs.Meaning.{Meaning, KeepsBuckets, IsKept, Steps, Settles, ChangesLimiter, AddsBucket, AnswersBucket, AddsLimiter, AnswersLimiter}
 use Rattle.retry_quota.specs.Place.{change_at}
 use Rattle.retry_quota.specs.Registers.{Registers, meaning_of}
 use Rattle.retry_quota.proofs.BookLemmas.{cost-after, terms-after}

@@ -1,5 +1,5 @@
 -- A token bucket as a book of plain sums: what it is, and what each step makes of it.
-use Rattle.std.specs.Prelude.{◌≡◌, ℕ, ◌+◌, ◌-◌, ◌*◌, ◌/◌, ◌%◌, ◌^◌, ◌<◌, ◌≤◌, ◌==◌, ◌&&◌, Bool, not, true, if◌then◌else◌, nat_lt, nat_le, min, Option, None, Some}
+use Rattle.std.specs.Prelude.{◌≡◌, ℕ, ◌+◌, ◌-◌, ◌*◌, ◌/◌, ◌%◌, ◌^◌, ◌<◌, ◌≤◌, ◌==◌, ◌&&◌, Bool, not, if◌then◌else◌, nat_lt, nat_le, min}
 use Rattle.smithy_base.specs.declared.kinds.ErrorKind.{ErrorKind}
 use Rattle.smithy_base.specs.declared.kinds.ErrorKind.TheVariants.{TransientError, ThrottlingError, ServerError, ClientError}
 use Rattle.smithy_base.specs.declared.sums.Sums.{Sums}

@@ -1,4 +1,4 @@
-ghost use Rattle.std.specs.Prelude.{◌≡◌, ℕ, IsTrue, IsSome, ◌↔◌, IfSome, IfOk, OnErr, Option, None, Some, is_some, slice_get, option_map, Ok};
+ghost use Rattle.std.specs.Prelude.{◌≡◌, ℕ, IsTrue, IfSome, IfOk, OnErr, Option, slice_get, option_map, Ok};
 ghost use Rattle.std.specs.Option.{option_map_or};
 ghost use Rattle.retry_quota.specs.Book.{sums_of};
 ghost use Rattle.retry_quota.specs.History.{Acquire, Release, Forget, Reward, Regenerate, Done, acquire_reply};
