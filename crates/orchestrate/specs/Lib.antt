@@ -2,6 +2,8 @@ pub mod Asking
 pub mod Replies
 pub mod Points
 pub mod Driving
+pub mod Stands
+pub mod Answered
 pub mod Growth
 pub mod Fresh
 pub mod Finish

@@ -1,6 +1,7 @@
 //! Runs of an operation from begin to end, over payloads.
-ghost use Rattle.std.specs.Prelude.{◌≡◌};
-ghost use Rattle.orchestrate.specs.Growth.{GrewByAtMost};
+ghost use Rattle.std.specs.Prelude.{◌≡◌, IfOk, OnErr};
+ghost use Rattle.orchestrate.specs.Stands.{Ran, RunLost};
+ghost use Rattle.orchestrate.specs.Answered.{ContextAnswered, PayloadAnswered};
 
 use crate::finish::{failure, outcome};
 use crate::invocation::{Invocation, Step};
@@ -42,7 +43,7 @@ pub fn invoke<W: World>(
     input: Payload,
     fuel: u64,
 ) -> Result<Payload, InvokeError<Payload>>
-    ensures { GrewByAtMost fuel (W.calls world.old) (W.calls world.new) }
+    ensures { PayloadAnswered input fuel result (W.calls world.old) (W.calls world.new) }
 {
     match run(alloc, world, input, StopPoint::None, fuel)? {
         Some(standing) => match outcome(standing.context) {
@@ -64,7 +65,7 @@ pub fn invoke_with_stop_point<W: World>(
     stop: StopPoint,
     fuel: u64,
 ) -> Result<InterceptorContext, InvokeError<Payload>>
-    ensures { GrewByAtMost fuel (W.calls world.old) (W.calls world.new) }
+    ensures { ContextAnswered input stop fuel result (W.calls world.old) (W.calls world.new) }
 {
     match run(alloc, world, input, stop, fuel)? {
         Some(standing) => {
@@ -87,7 +88,8 @@ pub fn run<W: World>(
     stop: StopPoint,
     fuel: u64,
 ) -> Result<Option<Standing>, OutOfMemory>
-    ensures { GrewByAtMost fuel (W.calls world.old) (W.calls world.new) }
+    ensures ran { IfOk result (λ r. Ran input stop fuel r (W.calls world.old) (W.calls world.new)) }
+    ensures lost { OnErr result (RunLost input stop fuel (W.calls world.old) (W.calls world.new)) }
 {
     let mut invocation = Invocation::start(input, stop);
     for _ in 0..fuel {

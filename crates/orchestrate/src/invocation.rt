@@ -1,7 +1,8 @@
 //! A run of an operation that is driven one question at a time.
-ghost use Rattle.std.specs.Prelude.{◌≡◌, IfOk, OnOk, OnErr};
-ghost use Rattle.orchestrate.specs.Growth.{GrewByOne, GrewByOneAtMost, GrewByStep};
+ghost use Rattle.std.specs.Prelude.{◌≡◌, [], true, IsErr, IfOk, OnOk, OnErr};
+ghost use Rattle.run_grammar.specs.Standing.{start};
 ghost use Rattle.orchestrate.specs.Fresh.{fresh};
+ghost use Rattle.orchestrate.specs.Stands.{AskedOnce, AskedInVain, Drove, Lost, Stands};
 
 use crate::point::Point;
 use crate::reply::Reply;
@@ -33,7 +34,8 @@ pub enum Step {
 impl Invocation {
     /// A run not begun. It takes no memory.
     pub fn start(input: Payload, stop: StopPoint) -> Invocation
-        ensures { result ≡ fresh input stop }
+        ensures fresh { result ≡ fresh input stop }
+        ensures stands { Stands (start input) [] result }
     {
         Invocation {
             stop,
@@ -55,8 +57,9 @@ impl Invocation {
     /// Asks the world one question, or none where the run is whole. Where there is no memory this
     /// answers so from then on, and asks nothing.
     pub fn drive<W: World>(&mut self, alloc: Global, world: &mut W) -> Result<Step, OutOfMemory>
-        ensures asked { IfOk result (λ r. GrewByStep r (W.calls world.old) (W.calls world.new)) }
-        ensures lost { OnErr result (GrewByOneAtMost (W.calls world.old) (W.calls world.new)) }
+        ensures drove { IfOk result (λ r. Drove r self.old self.new (W.calls world.old) (W.calls world.new)) }
+        ensures lost { OnErr result (Lost self.old self.new (W.calls world.old) (W.calls world.new)) }
+        ensures stays_lost { self.old.lost ≡ true → IsErr result × (W.calls world.new ≡ W.calls world.old) }
     {
         if self.lost {
             return Err(OutOfMemory);
@@ -77,8 +80,8 @@ impl Invocation {
         world: &mut W,
         point: Point,
     ) -> Result<(), OutOfMemory>
-        ensures ok { OnOk result (GrewByOne (W.calls world.old) (W.calls world.new)) }
-        ensures err { OnErr result (GrewByOneAtMost (W.calls world.old) (W.calls world.new)) }
+        ensures ok { OnOk result (AskedOnce self.old self.new point (W.calls world.old) (W.calls world.new)) }
+        ensures err { OnErr result (AskedInVain self.old self.new point (W.calls world.old) (W.calls world.new)) }
     {
         let kind = asks_at(point, self.stage.waiting);
         let question = self.standing.question(kind)?;

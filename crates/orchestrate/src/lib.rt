@@ -4,6 +4,7 @@
 pub mod execution;
 pub mod finish;
 pub mod invocation;
+pub mod laws;
 pub mod operation;
 pub mod point;
 pub mod reply;

@@ -1,6 +1,7 @@
 //! Operations over the caller's own types.
 ghost use Rattle.std.specs.Prelude.{◌≡◌};
 ghost use Rattle.orchestrate.specs.Growth.{GrewByAtMost};
+ghost use Rattle.orchestrate.specs.Answered.{ErrorRead, InputAnswered, OutputRead, SdkErrorRead};
 
 use crate::execution::{InvokeError, invoke};
 use crate::world::World;
@@ -44,7 +45,8 @@ impl<I: Wire + Drop, O: Wire + Drop, E: Wire + Drop> Operation<I, O, E> {
         input: I,
         fuel: u64,
     ) -> Result<O, InvokeError<E>>
-        ensures { GrewByAtMost fuel (W.calls world.old) (W.calls world.new) }
+        ensures grown { GrewByAtMost fuel (W.calls world.old) (W.calls world.new) }
+        ensures answered { InputAnswered I.accepts I.reads_as O.accepts O.reads_as E.accepts E.reads_as input fuel result (W.calls world.old) (W.calls world.new) }
     {
         let payload = input.to_payload(alloc)?;
         let answer = invoke(
@@ -63,7 +65,9 @@ impl<I: Wire + Drop, O: Wire + Drop, E: Wire + Drop> Operation<I, O, E> {
 }
 
 // The output as the caller's type.
-fn read_output<O: Wire, E>(alloc: Global, output: Payload) -> Result<O, InvokeError<E>> {
+fn read_output<O: Wire, E>(alloc: Global, output: Payload) -> Result<O, InvokeError<E>>
+    ensures { OutputRead O.accepts O.reads_as output result }
+{
     match O::from_payload(alloc, &output)? {
         Some(value) => Ok(value),
         None => Err(InvokeError::WrongType(output)),
@@ -71,7 +75,9 @@ fn read_output<O: Wire, E>(alloc: Global, output: Payload) -> Result<O, InvokeEr
 }
 
 // The error with the service's error as the caller's type.
-fn read_error<E: Wire>(alloc: Global, error: InvokeError<Payload>) -> InvokeError<E> {
+fn read_error<E: Wire>(alloc: Global, error: InvokeError<Payload>) -> InvokeError<E>
+    ensures { ErrorRead E.accepts E.reads_as error result }
+{
     match error {
         InvokeError::Sdk(error) => read_sdk_error(alloc, error),
         InvokeError::Unfinished => InvokeError::Unfinished,
@@ -80,7 +86,9 @@ fn read_error<E: Wire>(alloc: Global, error: InvokeError<Payload>) -> InvokeErro
     }
 }
 
-fn read_sdk_error<E: Wire>(alloc: Global, error: SdkError<Payload>) -> InvokeError<E> {
+fn read_sdk_error<E: Wire>(alloc: Global, error: SdkError<Payload>) -> InvokeError<E>
+    ensures { SdkErrorRead E.accepts E.reads_as error result }
+{
     match error {
         SdkError::ConstructionFailure(fault) => {
             InvokeError::Sdk(SdkError::ConstructionFailure(fault))

@@ -1,6 +1,6 @@
-use Rattle.orchestrate.specs.Growth.{GrewByAtMost}
+use Rattle.orchestrate.specs.Stands.{Progress}
 use Rattle.orchestrate.proofs.execution.run.Given as goal
 
--- each turn asks one question
+-- the invocation stands at the list of the calls so far
 abbrev pub invariant-loop : goal.invariant-loop
-invariant-loop g l = GrewByAtMost l.counter (g.W.World.calls l.fn.world) (g.W.World.calls l.world)
+invariant-loop g l = Progress l.fn.input l.fn.stop l.invocation (g.W.World.calls l.fn.world) (g.W.World.calls l.world) l.counter

@@ -8,7 +8,7 @@ pub returns : goal.returns
 returns c = (
   c.invoke-answer.new.world.log,
   c.in_ok-ending.ending,
-  grown_within _ c.in_ok-world.world.log _ c.in_ok-world.ensures.log c.invoke-answer.ensures,
+  grown_within _ c.in_ok-world.world.log _ c.in_ok-world.ensures.log c.invoke-answer.ensures.grown,
   c.in_ok-text.ensures ∙ ap (λ (l : List Entry). replay_text c.args.script.head l c.in_ok-ending.ending) (c.as_slice.ensures ∙ c.entries.ensures),
   c.status.ensures,
 )
