@@ -1,7 +1,6 @@
 -- From what a run over payloads answers to what an operation answers.
-use Rattle.std.proofs.Common.{Bool, true, false, ℕ, ◌≤◌, length, List, [], ◌++◌, Result, Ok, Err, ◌≡◌, ◌⊎◌, refl, sym, ap, ◌∙◌, subst, inl, inr, append-nil, arith}
+use Rattle.std.proofs.Common.{Bool, false, ℕ, List, [], Result, Ok, Err, ◌≡◌, sym, ap, ◌∙◌, subst, inl, inr, append-nil, arith}
 use Rattle.smithy_base.specs.declared.fault.SdkError.{SdkError}
-use Rattle.smithy_base.specs.declared.fault.SdkError.TheVariants.{ServiceError}
 use Rattle.smithy_base.specs.declared.kinds.StopPoint.{StopPoint}
 use Rattle.smithy_base.specs.declared.kinds.StopPoint.TheVariants as stops
 use Rattle.smithy_base.specs.declared.payload.Payload.{Payload}

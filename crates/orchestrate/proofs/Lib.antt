@@ -1,8 +1,9 @@
 pub mod ScriptLemmas
-pub mod GrowthLemmas
+pub mod HandingLemmas
 pub mod Simulation
 pub mod PointCases
 pub mod Standings
 pub mod Telling
 pub mod Running
 pub mod Answering
+pub mod Completeness

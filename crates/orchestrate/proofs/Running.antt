@@ -1,16 +1,16 @@
 -- The loop of a run.
-use Rattle.std.proofs.Common.{ℕ, ◌+◌, ◌≤◌, None, Some, List, [], ◌∷◌, ◌++◌, length, ◌≡◌, ◌⊎◌, refl, sym, ap, ◌∙◌, subst, inl, inr, arith, append-nil, append_assoc, length-append}
+use Rattle.std.proofs.Common.{ℕ, ◌+◌, ◌≤◌, None, Some, List, [], ◌∷◌, ◌++◌, length, ◌≡◌, refl, sym, ap, ◌∙◌, subst, inl, inr, arith, append-nil, append_assoc, length-append}
 use Rattle.smithy_base.specs.declared.kinds.StopPoint.{StopPoint}
 use Rattle.smithy_base.specs.declared.payload.Payload.{Payload}
 use Rattle.run_grammar.specs.declared.answer.Entry.{Entry}
 use Rattle.run_grammar.specs.declared.answer.Answer.TheVariants.{NoMemory}
 use Rattle.run_grammar.specs.Entry.{entry}
-use Rattle.run_grammar.specs.Standing.{State, start}
+use Rattle.run_grammar.specs.Standing.{start}
 use Rattle.run_grammar.specs.Laws.{IsWhole, Begins}
 use Rattle.orchestrate.specs.declared.point.Point.{Point}
 use Rattle.orchestrate.specs.declared.invocation.Invocation.{Invocation}
 use Rattle.orchestrate.specs.declared.invocation.Step.TheVariants.{Asked, Ended}
-use Rattle.orchestrate.specs.Stands.{Stands, Drove, Lost, LostAt, Continues, Progress, Ran, RunLost, Interrupted}
+use Rattle.orchestrate.specs.Stands.{Stands, Drove, Lost, LostAt, Progress, Ran, RunLost}
 use Rattle.orchestrate.proofs.Standings.{stands_whole, stands_begins_run, not_whole}
 
 pub progress_start : (p : Payload) (stop : StopPoint) (v : Invocation) (before : List Entry) → v.stop ≡ stop → Stands (start p) [] v → Progress p stop v before before 0

@@ -3,7 +3,6 @@ use Rattle.std.proofs.Common.{Bool, true, false, cond, Option, None, Some, List,
 use Rattle.run_grammar.specs.declared.kind.Role.{Role}
 use Rattle.run_grammar.specs.declared.kind.Role.TheVariants.{Attempt, Operation}
 use Rattle.run_grammar.specs.declared.kind.Kind.{Kind}
-use Rattle.run_grammar.specs.declared.question.Question.{Question}
 use Rattle.run_grammar.specs.declared.answer.Answer.{Answer}
 use Rattle.run_grammar.specs.declared.standing.Standing.{Standing}
 use Rattle.run_grammar.specs.declared.answer.Entry.{Entry}
@@ -12,7 +11,6 @@ use Rattle.orchestrate.specs.declared.stage.Armed.{Armed}
 use Rattle.orchestrate.specs.declared.stage.Place.{Place}
 use Rattle.orchestrate.specs.declared.point.Point.{Point}
 use Rattle.orchestrate.specs.declared.stage.Waiting.{Waiting}
-use Rattle.orchestrate.specs.declared.point.Point.TheVariants.{AtConfigureClient}
 use Rattle.orchestrate.specs.declared.stage.Waiting.TheVariants.{NotWaiting, ForAttempt, ForOperation, ForPark, CutByAttempt, CutByOperation}
 use Rattle.orchestrate.specs.declared.invocation.Invocation.{Invocation}
 use Rattle.run_grammar.specs.Entry.{kind_of, pending, ready}
@@ -26,10 +24,10 @@ use Rattle.run_grammar.specs.Standing.{State, standing, step, start, asked, asks
 use Rattle.run_grammar.specs.Grammar.{run}
 use Rattle.run_grammar.specs.Machine.{Position, Whole, Dead, Cutting, begin, next, after, Asks, cut}
 use Rattle.run_grammar.specs.Machine.{Waiting as Waits}
-use Rattle.orchestrate.specs.Points.{none_armed, kind_at, left_at, scope_at, operation_scope, here, next_point, placed, asking_at}
+use Rattle.orchestrate.specs.Points.{kind_at, left_at, scope_at, operation_scope, here, next_point, placed, asking_at}
 use Rattle.orchestrate.specs.declared.invocation.Step.TheVariants.{Asked}
 use Rattle.orchestrate.specs.Driving.{waiting_at, position_of, stage_position, asks_at, first_wait, stage, moved_at}
-use Rattle.orchestrate.specs.Stands.{Drove, Stands, made, stood, driven}
+use Rattle.orchestrate.specs.Stands.{Drove, Stands, made, driven}
 use Rattle.run_grammar.specs.Laws.{IsWhole, Begins}
 use Rattle.run_grammar.proofs.Spots.{standing-append}
 use Rattle.orchestrate.proofs.PointCases.{follows, waits_first, cut_by_attempt, cut_by_operation, left_is}

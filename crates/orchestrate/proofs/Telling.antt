@@ -1,11 +1,10 @@
 -- A reply tells the tests of its entry, and asking once moves an invocation.
-use Rattle.std.proofs.Common.{Bool, true, false, cond, ℕ, Option, None, Some, List, [], ◌∷◌, ◌++◌, ◌≡◌, ◌⊎◌, refl, sym, ap, ◌∙◌, subst, inl, inr}
+use Rattle.std.proofs.Common.{Bool, true, false, cond, ℕ, Option, Some, List, [], ◌∷◌, ◌++◌, ◌≡◌, refl, sym, ap, ◌∙◌, subst, inl, inr}
 use Rattle.run_grammar.specs.declared.kind.Role.{Role}
 use Rattle.run_grammar.specs.declared.kind.Kind.{Kind}
 use Rattle.run_grammar.specs.declared.kind.Kind.TheVariants as kinds
 use Rattle.run_grammar.specs.declared.question.Question.{Question}
 use Rattle.run_grammar.specs.declared.answer.Answer.{Answer}
-use Rattle.run_grammar.specs.declared.answer.Answer.TheVariants.{NoMemory}
 use Rattle.run_grammar.specs.declared.answer.Entry.{Entry}
 use Rattle.run_grammar.specs.declared.standing.Standing.{Standing}
 use Rattle.run_grammar.specs.Question.{kind_of_question, nanos_of}
@@ -20,7 +19,7 @@ use Rattle.orchestrate.specs.declared.reply.Reply.{Reply}
 use Rattle.orchestrate.specs.declared.invocation.Invocation.{Invocation}
 use Rattle.orchestrate.specs.Replies.{reply_of, started_if, started_by, started_of, Tells}
 use Rattle.orchestrate.specs.Driving.{asks_at, moved_at}
-use Rattle.orchestrate.specs.Stands.{made, stood, driven, Stands, Drove, LostAt, Lost, AskedOnce, AskedInVain}
+use Rattle.orchestrate.specs.Stands.{made, stood, driven, Drove, Lost, AskedOnce, AskedInVain}
 use Rattle.orchestrate.proofs.Standings.{asks_kind, stands_on, stands_begins_run, drove}
 use Rattle.orchestrate.specs.declared.invocation.Step.TheVariants.{Asked}
 

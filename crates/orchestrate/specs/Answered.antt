@@ -1,5 +1,5 @@
 -- What an operation's calls answer.
-use Rattle.std.specs.Prelude.{ℕ, length, ◌≤◌, Bool, true, false, Option, None, Some, Result, Ok, Err, List, ◌++◌, ◌≡◌, ◌⊎◌}
+use Rattle.std.specs.Prelude.{ℕ, length, ◌≤◌, Bool, true, false, Result, Ok, Err, List, ◌++◌, ◌≡◌, ◌⊎◌}
 use Rattle.smithy_base.specs.declared.context.InterceptorContext.{InterceptorContext}
 use Rattle.smithy_base.specs.declared.fault.SdkError.{SdkError}
 use Rattle.smithy_base.specs.declared.fault.SdkError.TheVariants.{ConstructionFailure, TimeoutError, DispatchFailure, ResponseError, ServiceError}
@@ -9,12 +9,12 @@ use Rattle.smithy_base.specs.declared.kinds.StopPoint.TheVariants as stops
 use Rattle.smithy_base.specs.declared.payload.Payload.{Payload}
 use Rattle.smithy_base.specs.Failures.{is_failure}
 use Rattle.run_grammar.specs.declared.answer.Entry.{Entry}
-use Rattle.run_grammar.specs.Standing.{State, standing, start}
+use Rattle.run_grammar.specs.Standing.{standing, start}
 use Rattle.run_grammar.specs.Laws.{IsWhole, Begins}
 use Rattle.orchestrate.specs.declared.execution.InvokeError.{InvokeError}
 use Rattle.orchestrate.specs.declared.execution.InvokeError.TheVariants.{Sdk, Unfinished, WrongType, OutOfMemory}
 use Rattle.orchestrate.specs.Finish.{answer_of, failure_of}
-use Rattle.orchestrate.specs.Stands.{Interrupted, RunLost}
+use Rattle.orchestrate.specs.Stands.{RunLost}
 
 -- the log grew by a whole run of at most fuel calls, and so it is with the context at its end
 abbrev pub WholeRun : Payload → StopPoint → ℕ → List Entry → List Entry → (InterceptorContext → Type 0) → Type 0

@@ -10,3 +10,4 @@ pub mod Finish
 pub mod Same
 pub mod ScriptValue
 pub mod Script
+pub mod Handing

@@ -2,6 +2,7 @@
 ghost use Rattle.std.specs.Prelude.{◌≡◌, IfOk, OnErr};
 ghost use Rattle.orchestrate.specs.Stands.{Ran, RunLost};
 ghost use Rattle.orchestrate.specs.Answered.{ContextAnswered, PayloadAnswered};
+ghost use Rattle.orchestrate.specs.Handing.{HadMemory, HandedOn};
 
 use crate::finish::{failure, outcome};
 use crate::invocation::{Invocation, Step};
@@ -43,7 +44,8 @@ pub fn invoke<W: World>(
     input: Payload,
     fuel: u64,
 ) -> Result<Payload, InvokeError<Payload>>
-    ensures { PayloadAnswered input fuel result (W.calls world.old) (W.calls world.new) }
+    ensures answered { PayloadAnswered input fuel result (W.calls world.old) (W.calls world.new) }
+    ensures related { HadMemory result → HandedOn W.relates world.old world.new (W.calls world.old) (W.calls world.new) }
 {
     match run(alloc, world, input, StopPoint::None, fuel)? {
         Some(standing) => match outcome(standing.context) {
@@ -65,7 +67,8 @@ pub fn invoke_with_stop_point<W: World>(
     stop: StopPoint,
     fuel: u64,
 ) -> Result<InterceptorContext, InvokeError<Payload>>
-    ensures { ContextAnswered input stop fuel result (W.calls world.old) (W.calls world.new) }
+    ensures answered { ContextAnswered input stop fuel result (W.calls world.old) (W.calls world.new) }
+    ensures related { HadMemory result → HandedOn W.relates world.old world.new (W.calls world.old) (W.calls world.new) }
 {
     match run(alloc, world, input, stop, fuel)? {
         Some(standing) => {
@@ -90,6 +93,7 @@ pub fn run<W: World>(
 ) -> Result<Option<Standing>, OutOfMemory>
     ensures ran { IfOk result (λ r. Ran input stop fuel r (W.calls world.old) (W.calls world.new)) }
     ensures lost { OnErr result (RunLost input stop fuel (W.calls world.old) (W.calls world.new)) }
+    ensures related { IfOk result (λ r. HandedOn W.relates world.old world.new (W.calls world.old) (W.calls world.new)) }
 {
     let mut invocation = Invocation::start(input, stop);
     for _ in 0..fuel {

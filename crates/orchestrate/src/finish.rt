@@ -8,8 +8,8 @@ use smithy_base::{
 
 const NO_OUTCOME: &'static str = "no outcome stands";
 
-/// The output that stands, or the error that the standing failure gives. Where neither stands,
-/// which no run up to its end leaves, that is an untyped failure.
+/// The output that stands, or the error that the standing failure gives. Where neither stands it
+/// is an untyped failure.
 pub fn outcome(context: InterceptorContext) -> Result<Payload, SdkError<Payload>>
     ensures { result ≡ answer_of context }
 {

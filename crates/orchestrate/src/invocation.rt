@@ -2,6 +2,7 @@
 ghost use Rattle.std.specs.Prelude.{◌≡◌, [], true, IsErr, IfOk, OnOk, OnErr};
 ghost use Rattle.run_grammar.specs.Standing.{start};
 ghost use Rattle.orchestrate.specs.Fresh.{fresh};
+ghost use Rattle.orchestrate.specs.Handing.{HandedOn};
 ghost use Rattle.orchestrate.specs.Stands.{AskedOnce, AskedInVain, Drove, Lost, Stands};
 
 use crate::point::Point;
@@ -59,6 +60,7 @@ impl Invocation {
     pub fn drive<W: World>(&mut self, alloc: Global, world: &mut W) -> Result<Step, OutOfMemory>
         ensures drove { IfOk result (λ r. Drove r self.old self.new (W.calls world.old) (W.calls world.new)) }
         ensures lost { OnErr result (Lost self.old self.new (W.calls world.old) (W.calls world.new)) }
+        ensures related { IfOk result (λ r. HandedOn W.relates world.old world.new (W.calls world.old) (W.calls world.new)) }
         ensures stays_lost { self.old.lost ≡ true → IsErr result × (W.calls world.new ≡ W.calls world.old) }
     {
         if self.lost {
@@ -82,6 +84,7 @@ impl Invocation {
     ) -> Result<(), OutOfMemory>
         ensures ok { OnOk result (AskedOnce self.old self.new point (W.calls world.old) (W.calls world.new)) }
         ensures err { OnErr result (AskedInVain self.old self.new point (W.calls world.old) (W.calls world.new)) }
+        ensures related { OnOk result (HandedOn W.relates world.old world.new (W.calls world.old) (W.calls world.new)) }
     {
         let kind = asks_at(point, self.stage.waiting);
         let question = self.standing.question(kind)?;

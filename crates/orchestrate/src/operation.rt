@@ -1,12 +1,13 @@
 //! Operations over the caller's own types.
 ghost use Rattle.std.specs.Prelude.{◌≡◌};
 ghost use Rattle.orchestrate.specs.Growth.{GrewByAtMost};
+ghost use Rattle.orchestrate.specs.Handing.{HadMemory, HandedOn};
 ghost use Rattle.orchestrate.specs.Answered.{ErrorRead, InputAnswered, OutputRead, SdkErrorRead};
 
 use crate::execution::{InvokeError, invoke};
 use crate::world::World;
 use smithy_base::{Payload, SdkError, Text, Wire};
-use std::alloc::Global;
+use std::alloc::{AllocError, Global};
 use std::marker::PhantomData;
 
 /// An operation with input `I`, output `O` and modelled error `E`.
@@ -19,7 +20,10 @@ pub struct Operation<I, O, E> {
 
 impl<I: Wire + Drop, O: Wire + Drop, E: Wire + Drop> Operation<I, O, E> {
     /// An operation for a world that the caller brings. It takes no memory.
-    pub fn named(service_name: Text, operation_name: Text) -> Operation<I, O, E> {
+    pub fn named(service_name: Text, operation_name: Text) -> Operation<I, O, E>
+        ensures service_name { result.service_name ≡ service_name }
+        ensures operation_name { result.operation_name ≡ operation_name }
+    {
         Operation {
             service_name,
             operation_name,
@@ -28,12 +32,16 @@ impl<I: Wire + Drop, O: Wire + Drop, E: Wire + Drop> Operation<I, O, E> {
     }
 
     /// The service's name.
-    pub fn service_name(&self) -> &str {
+    pub fn service_name(&self) -> &str
+        ensures { result.now ≡ self.now.service_name }
+    {
         self.service_name.as_str()
     }
 
     /// The operation's name.
-    pub fn operation_name(&self) -> &str {
+    pub fn operation_name(&self) -> &str
+        ensures { result.now ≡ self.now.operation_name }
+    {
         self.operation_name.as_str()
     }
 
@@ -47,6 +55,7 @@ impl<I: Wire + Drop, O: Wire + Drop, E: Wire + Drop> Operation<I, O, E> {
     ) -> Result<O, InvokeError<E>>
         ensures grown { GrewByAtMost fuel (W.calls world.old) (W.calls world.new) }
         ensures answered { InputAnswered I.accepts I.reads_as O.accepts O.reads_as E.accepts E.reads_as input fuel result (W.calls world.old) (W.calls world.new) }
+        ensures related { HadMemory result → HandedOn W.relates world.old world.new (W.calls world.old) (W.calls world.new) }
     {
         let payload = input.to_payload(alloc)?;
         let answer = invoke(
@@ -61,6 +70,20 @@ impl<I: Wire + Drop, O: Wire + Drop, E: Wire + Drop> Operation<I, O, E> {
             Ok(output) => read_output(alloc, output),
             Err(error) => Err(read_error(alloc, error)),
         }
+    }
+}
+
+impl<I, O, E> Clone for Operation<I, O, E> {
+    ghost use Rattle.std.specs.Prelude.{◌≡◌};
+
+    ghost is_clone = { λ operation copy. copy ≡ operation };
+
+    fn clone(&self) -> Result<Operation<I, O, E>, AllocError> {
+        Ok(Operation {
+            service_name: self.service_name.clone()?,
+            operation_name: self.operation_name.clone()?,
+            types: PhantomData,
+        })
     }
 }
 

@@ -1,18 +1,24 @@
-use Rattle.std.proofs.Common.{Ok, Err, None, Some, ap, subst, arith, ◌+◌, ◌≡◌, ◌≤◌}
+use Rattle.std.proofs.Common.{Ok, Err, ap, subst, arith, ◌+◌, ◌≡◌, ◌≤◌}
 use Rattle.std.specs.Prelude.{OnErr}
 use Rattle.orchestrate.specs.Stands.{Drove, Progress, RunLost}
-use Rattle.orchestrate.proofs.Running.{progress_start, progress_more, ran_over, ran_whole, ran_unfinished, run_lost}
+use Rattle.orchestrate.proofs.HandingLemmas.{handed_nothing, handed_more}
+use Rattle.orchestrate.proofs.Running.{progress_start, progress_more, ran_whole, ran_unfinished, run_lost}
 use Rattle.orchestrate.proofs.execution.run.Goals as goal
 
 pub loop-init : goal.loop-init
-loop-init g c =
-    progress_start c.args.input c.args.stop c.start-invocation.result (g.W.World.calls c.args.world.now) (ap (λ v. v.stop) c.start-invocation.ensures.fresh) c.start-invocation.ensures.stands
+loop-init g c = (
+  progress_start c.args.input c.args.stop c.start-invocation.result (g.W.World.calls c.args.world.now) (ap (λ v. v.stop) c.start-invocation.ensures.fresh) c.start-invocation.ensures.stands,
+  handed_nothing g.W.World.relates c.args.world.now (g.W.World.calls c.args.world.now),
+)
 
 pub loop-preserved : goal.loop-preserved
-loop-preserved g c =
-    progress_more c.args.input c.args.stop c.loop.invocation c.drive.new.self (g.W.World.calls c.args.world.now) (g.W.World.calls c.loop.world) (g.W.World.calls c.drive.new.world)
-    c.loop.counter c.loop.invariant
-    (subst (λ r. Drove r c.loop.invocation c.drive.new.self (g.W.World.calls c.loop.world) (g.W.World.calls c.drive.new.world)) c.in-Asked.is c.in_ok-drive.ensures.drove)
+loop-preserved g c = (
+  progress_more c.args.input c.args.stop c.loop.invocation c.drive.new.self (g.W.World.calls c.args.world.now) (g.W.World.calls c.loop.world) (g.W.World.calls c.drive.new.world)
+      c.loop.counter c.loop.invariant.0
+      (subst (λ r. Drove r c.loop.invocation c.drive.new.self (g.W.World.calls c.loop.world) (g.W.World.calls c.drive.new.world)) c.in-Asked.is c.in_ok-drive.ensures.drove),
+  handed_more g.W.World.relates c.args.world.now c.loop.world c.drive.new.world (g.W.World.calls c.args.world.now) (g.W.World.calls c.loop.world) (g.W.World.calls c.drive.new.world)
+      c.loop.invariant.1 c.in_ok-drive.ensures.related,
+)
 
 pub returns-in_err-drive-clause-lost : goal.returns-in_err-drive-clause-lost
 returns-in_err-drive-clause-lost g c =
@@ -20,17 +26,22 @@ returns-in_err-drive-clause-lost g c =
     elim c.from_residual.result as (λ r. OnErr r (RunLost c.args.input c.args.stop c.args.fuel (g.W.World.calls c.args.world.now) (g.W.World.calls c.drive.new.world))) [
       | Ok x ↦ tt
       | Err x ↦ run_lost c.args.input c.args.stop c.args.fuel c.loop.invocation c.drive.new.self (g.W.World.calls c.args.world.now) (g.W.World.calls c.loop.world)
-          (g.W.World.calls c.drive.new.world) c.loop.counter le c.loop.invariant c.in_err-drive.ensures.lost
+          (g.W.World.calls c.drive.new.world) c.loop.counter le c.loop.invariant.0 c.in_err-drive.ensures.lost
     ]
 
 pub returns-in-None-clause-ran : goal.returns-in-None-clause-ran
 returns-in-None-clause-ran g c =
     let e : c.loop.counter ≡ c.args.fuel = omega arith in
     ran_whole c.args.input c.args.stop c.args.fuel c.loop.invocation (g.W.World.calls c.args.world.now) (g.W.World.calls c.loop.world) c.in-None.is
-    (subst (λ n. Progress c.args.input c.args.stop c.loop.invocation (g.W.World.calls c.args.world.now) (g.W.World.calls c.loop.world) n) e c.loop.invariant)
+    (subst (λ n. Progress c.args.input c.args.stop c.loop.invocation (g.W.World.calls c.args.world.now) (g.W.World.calls c.loop.world) n) e c.loop.invariant.0)
 
 pub returns-in-Some-clause-ran : goal.returns-in-Some-clause-ran
 returns-in-Some-clause-ran g c =
     let e : c.loop.counter ≡ c.args.fuel = omega arith in
     ran_unfinished c.args.input c.args.stop c.args.fuel c.loop.invocation c.in-Some.field-0 (g.W.World.calls c.args.world.now) (g.W.World.calls c.loop.world) c.in-Some.is
-    (subst (λ n. Progress c.args.input c.args.stop c.loop.invocation (g.W.World.calls c.args.world.now) (g.W.World.calls c.loop.world) n) e c.loop.invariant)
+    (subst (λ n. Progress c.args.input c.args.stop c.loop.invocation (g.W.World.calls c.args.world.now) (g.W.World.calls c.loop.world) n) e c.loop.invariant.0)
+
+pub returns-in-Ended-clause-related : goal.returns-in-Ended-clause-related
+returns-in-Ended-clause-related g c =
+    handed_more g.W.World.relates c.args.world.now c.loop.world c.drive.new.world (g.W.World.calls c.args.world.now) (g.W.World.calls c.loop.world) (g.W.World.calls c.drive.new.world)
+    c.loop.invariant.1 c.in_ok-drive.ensures.related

@@ -1,6 +1,7 @@
-use Rattle.std.proofs.Common.{Ok, Err, refl, inr}
+use Rattle.std.proofs.Common.{Ok, Err, [], ◌∷◌, refl, inr}
 use Rattle.std.specs.Prelude.{OnErr}
 use Rattle.orchestrate.specs.declared.invocation.Invocation.{Invocation}
+use Rattle.run_grammar.specs.Entry.{entry}
 use Rattle.orchestrate.specs.Stands.{AskedInVain}
 use Rattle.orchestrate.proofs.Telling.{asked_step, fits_made, told_made}
 use Rattle.orchestrate.proofs.invocation.Invocation.ask.Goals as goal
@@ -33,3 +34,6 @@ returns-in_err-taken-clause-err g c =
         )),
       )
     ]
+
+pub returns-clause-related : goal.returns-clause-related
+returns-clause-related g c = (entry c.in_ok-question.question c.in_ok-answer.answer ∷ [], c.in_ok-answer.ensures.told, c.in_ok-answer.ensures.related)

@@ -2,6 +2,7 @@ use Rattle.std.proofs.Common.{Ok, Err, false, refl}
 use Rattle.std.specs.Prelude.{OnErr}
 use Rattle.orchestrate.specs.declared.invocation.Invocation.{Invocation}
 use Rattle.orchestrate.specs.Stands.{Lost}
+use Rattle.orchestrate.proofs.HandingLemmas.{handed_nothing}
 use Rattle.orchestrate.proofs.Standings.{stands_whole}
 use Rattle.orchestrate.proofs.Telling.{drove_once, lost_once}
 use Rattle.orchestrate.proofs.invocation.Invocation.drive.Goals as goal
@@ -20,3 +21,9 @@ pub returns-clause-drove : goal.returns-clause-drove
 returns-clause-drove g c =
     let x : Invocation = record c.ask.new.self { lost = false } in
     drove_once c.args.self.now c.ask.new.self x c.in-Some.point (g.W.World.calls c.args.world.now) (g.W.World.calls c.ask.new.world) c.in-Some.is c.in_ok-ask.ensures.ok refl
+
+pub returns-in_default-clause-related : goal.returns-in_default-clause-related
+returns-in_default-clause-related g c = handed_nothing g.W.World.relates c.args.world.now (g.W.World.calls c.args.world.now)
+
+pub returns-clause-related : goal.returns-clause-related
+returns-clause-related g c = c.in_ok-ask.ensures.related
