@@ -10,3 +10,6 @@ pub mod Going
 pub mod Closed
 pub mod TheLaws
 pub mod CaseProofs
+pub mod Outcomes
+pub mod OutcomeWords
+pub mod OutcomeProofs

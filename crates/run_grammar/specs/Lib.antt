@@ -11,3 +11,4 @@ pub mod Machine
 pub mod Laws
 pub mod Cases
 pub mod Finals
+pub mod Outcomes

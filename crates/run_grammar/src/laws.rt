@@ -7,6 +7,7 @@ ghost use Rattle.run_grammar.specs.Grammar.{run};
 ghost use Rattle.run_grammar.specs.Machine.{Accepts, begin};
 ghost use Rattle.run_grammar.specs.Cases.{RunCases};
 ghost use Rattle.run_grammar.specs.Laws.{GoesOn, IsRun, NoPrefix, OneQuestion};
+ghost use Rattle.run_grammar.specs.Outcomes.{OutcomeStands};
 
 /// A list is a run exactly where the machine that takes one entry at a time accepts it.
 pub fn runs_are_accepted()
@@ -32,4 +33,9 @@ pub fn one_question_continues()
 /// A list that begins a run is whole, or goes on by each fitting answer of its one question.
 pub fn a_begun_list_goes_on()
     ensures { GoesOn }
+{}
+
+/// At the end of a whole run without a stop point an output or a failure stands.
+pub fn an_outcome_stands()
+    ensures { OutcomeStands }
 {}

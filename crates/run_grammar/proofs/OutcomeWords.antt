@@ -1,0 +1,282 @@
+-- Words of the grammar, and whether an outcome stands behind them.
+use Rattle.std.proofs.Common.{Bool, true, false, cond, zero, suc, ℕ, List, [], ◌∷◌, ◌++◌, ◌≡◌, refl, sym, ap, ◌∙◌, subst, inl, inr, arith}
+use Rattle.run_grammar.specs.declared.kind.Role.{Role}
+use Rattle.run_grammar.specs.declared.kind.Role.TheVariants as roles
+use Rattle.run_grammar.specs.declared.kind.Kind.{Kind}
+use Rattle.run_grammar.specs.declared.kind.Kind.TheVariants as kinds
+use Rattle.run_grammar.specs.declared.answer.Entry.{Entry}
+use Rattle.run_grammar.specs.Entry.{kind_of, pending, ready, can_wait, fails, same_role, abandon_of}
+use Rattle.run_grammar.specs.Question.{nanos_of}
+use Rattle.run_grammar.specs.Fits.{fits}
+use Rattle.run_grammar.specs.Change.{changed}
+use Rattle.run_grammar.specs.Standing.{State, standing, step}
+use Rattle.run_grammar.specs.Production.{Production, Nothing, Work, ◌⨟◌, Where, Rounds, Again, InAttempt, Under, End, Ended, Further, CutBy}
+use Rattle.run_grammar.specs.Words.{Word, WaitsOf, Struck, Idle, AfterIdles, Answered, CutOnce, RoundsOf, marked}
+use Rattle.run_grammar.specs.Grammar.{failed}
+use Rattle.run_grammar.specs.Laws.{EachFits}
+use Rattle.run_grammar.proofs.Spots.{standing-append}
+use Rattle.run_grammar.proofs.Paths.{fits_of}
+use Rattle.run_grammar.proofs.Outcomes.{Has, is_calm, is_deadline, failed_stands, kept_stands, struck_stands}
+
+abbrev pub Stood : State → Type 0
+Stood s = Has s.context
+
+-- where the last entry failed, an outcome stands
+abbrev pub Sound : State → Type 0
+Sound s = failed s ≡ true → Stood s
+
+-- ---- entries
+
+pub sound_step : (s : State) (e : Entry) → fits (kind_of e) e.answer ≡ true → Sound (step s e)
+unfolding step failed fails
+sound_step s e f h = failed_stands (kind_of e) (nanos_of e.question) e.answer s.context f h
+
+pub sound_on : (l : List Entry) (s : State) → EachFits l → Sound s → Sound (standing s l)
+sound_on [] s f h = h
+sound_on (e ∷ l) s (f, g) h = sound_on l (step s e) g (sound_step s e f)
+
+calm_step : (s : State) (e : Entry) → is_calm (kind_of e) ≡ true → fits (kind_of e) e.answer ≡ true → Stood s → Stood (step s e)
+unfolding step
+calm_step s e c f h = kept_stands (kind_of e) (nanos_of e.question) e.answer s.context c f h
+
+of_kind_calm : (e : Entry) (k : Kind) → kind_of e ≡ k → is_calm k ≡ true → is_calm (kind_of e) ≡ true
+of_kind_calm e k h c = subst (λ j. is_calm j ≡ true) (sym h) c
+
+-- ---- a question that is asked again and again
+
+waits_stand : (ds : List Role) (l : List Entry) (s : State) → EachFits l → WaitsOf ds l → Stood s → Stood (standing s l)
+waits_stand [] [] s f w h = absurd w
+waits_stand (d ∷ ds) [] s f w h = absurd w
+waits_stand [] (e ∷ l) s (f, g) (k, n) h =
+    subst (λ m. Stood (standing (step s e) m)) (sym n) (calm_step s e (of_kind_calm e kinds.Park k refl) f h)
+waits_stand (d ∷ ds) (e ∷ l) s (f, g) (k, p, w) h = waits_stand ds l (step s e) g w (calm_step s e (of_kind_calm e (kinds.Wait d) k refl) f h)
+
+idle_stands : (k : Kind) (ds : List Role) (l : List Entry) (s : State) → is_calm k ≡ true → EachFits l → Idle k ds l → Stood s → Stood (standing s l)
+idle_stands k ds [] s c f w h = absurd w
+idle_stands k ds (e ∷ l) s c (f, g) (j, p, w) h = waits_stand ds l (step s e) g w (calm_step s e (of_kind_calm e k j c) f h)
+
+worked_stands : (k : Kind) (ds : List Role) (n : ℕ) (l : List Entry) (s : State) → is_calm k ≡ true → EachFits l → AfterIdles k ds (Answered k) n l → Stood s → Stood (standing s l)
+worked_stands k ds zero l s c f (e, n, j, p) h =
+    let g = subst EachFits n f in
+    subst (λ m. Stood (standing s m)) (sym n) (calm_step s e (of_kind_calm e k j c) g.0 h)
+worked_stands k ds (suc n) l s c f (a, b, e, i, w) h =
+    let g = fits_of a b (subst EachFits e f) in
+    subst (λ m. Stood (standing s m)) (sym e)
+    (subst Stood (sym (standing-append a b s)) (worked_stands k ds n b (standing s a) c g.1 w (idle_stands k ds a s c g.0 i h)))
+
+-- what holds after every answer of the kind holds after the question
+pub answered_holds : (P : State → Type 0) (k : Kind) → ((s : State) (e : Entry) → kind_of e ≡ k → pending e ≡ false → fits (kind_of e) e.answer ≡ true → P (step s e)) →
+    (ds : List Role) (n : ℕ) (l : List Entry) (s : State) → EachFits l → AfterIdles k ds (Answered k) n l → P (standing s l)
+answered_holds P k q ds zero l s f (e, n, j, p) =
+    let g = subst EachFits n f in
+    subst (λ m. P (standing s m)) (sym n) (q s e j p g.0)
+answered_holds P k q ds (suc n) l s f (a, b, e, i, w) =
+    let g = fits_of a b (subst EachFits e f) in
+    subst (λ m. P (standing s m)) (sym e)
+    (subst P (sym (standing-append a b s)) (answered_holds P k q ds n b (standing s a) g.1 w))
+
+never_idle : (k : Kind) (ds : List Role) (l : List Entry) → can_wait k ≡ false → Idle k ds l → ⊥
+unfolding pending
+never_idle k ds [] c w = w
+never_idle k ds (e ∷ l) c (j, p, w) = grind (arith, c, j, p)
+
+-- and where the kind is never pending, what stood before is known too
+pub answered_once : (P : State → Type 0) (k : Kind) → can_wait k ≡ false →
+    ((s : State) (e : Entry) → Stood s → kind_of e ≡ k → fits (kind_of e) e.answer ≡ true → P (step s e)) →
+    (ds : List Role) (n : ℕ) (l : List Entry) (s : State) → EachFits l → AfterIdles k ds (Answered k) n l → Stood s → P (standing s l)
+answered_once P k c q ds zero l s f (e, n, j, p) h =
+    let g = subst EachFits n f in
+    subst (λ m. P (standing s m)) (sym n) (q s e h j g.0)
+answered_once P k c q ds (suc n) l s f (a, b, e, i, w) h = absurd (never_idle k ds a c i)
+
+-- ---- a cut leaves its timeout
+
+struck_stood : (s : State) (e : Entry) (d : Role) → is_deadline d ≡ true → kind_of e ≡ kinds.Wait d → ready e ≡ true → Stood (step s e)
+unfolding step ready
+struck_stood s e d h k r = subst (λ j. Has (changed j (nanos_of e.question) e.answer s.context)) (sym k) (struck_stands d (nanos_of e.question) e.answer s.context h r)
+
+calm_abandon : (k : Kind) → is_calm (abandon_of k) ≡ true
+calm_abandon (kinds.Configure w) = refl
+calm_abandon (kinds.Hook h) = refl
+calm_abandon kinds.Serialize = refl
+calm_abandon kinds.Load = refl
+calm_abandon kinds.Initial = refl
+calm_abandon (kinds.Start r) = refl
+calm_abandon (kinds.Wait roles.Operation) = refl
+calm_abandon (kinds.Wait roles.Attempt) = refl
+calm_abandon (kinds.Wait roles.Send) = refl
+calm_abandon (kinds.Wait roles.Retry) = refl
+calm_abandon (kinds.Wait roles.LongPoll) = refl
+calm_abandon kinds.Choose = refl
+calm_abandon kinds.Endpoint = refl
+calm_abandon kinds.Apply = refl
+calm_abandon kinds.Sign = refl
+calm_abandon kinds.Transmit = refl
+calm_abandon kinds.Stream = refl
+calm_abandon kinds.Body = refl
+calm_abandon kinds.Deserialize = refl
+calm_abandon kinds.Decide = refl
+calm_abandon (kinds.Abandon p) = refl
+calm_abandon kinds.Park = refl
+
+struck_word : (k : Kind) (d : Role) (ds : List Role) (l : List Entry) (s : State) → is_deadline d ≡ true → EachFits l → Struck k d ds l → Stood (standing s l)
+struck_word k d [] l s h f w = absurd w
+struck_word k d (c ∷ ds) [] s h f w = absurd w
+struck_word k d (c ∷ ds) (e ∷ l) s h (f, g) (j, inl (p, w)) = struck_word k d ds l (step s e) h g w
+struck_word k d (c ∷ ds) (e ∷ l) s h (f, g) (j, inr (same, p, r, a, n, i)) =
+    let m = subst EachFits n g in
+    subst (λ y. Stood (standing (step s e) y)) (sym n)
+    (calm_step (step s e) a (of_kind_calm a (abandon_of k) i (calm_abandon k)) m.0 (struck_stood s e d h (j ∙ ap kinds.Wait same) r))
+
+cut_once : (k : Kind) (d : Role) (ds : List Role) (l : List Entry) (s : State) → is_deadline d ≡ true → EachFits l → CutOnce k d ds l → Stood (standing s l)
+cut_once k d ds [] s h f w = absurd w
+cut_once k d ds (e ∷ l) s h (f, g) (j, p, w) = struck_word k d ds l (step s e) h g w
+
+cut_work : (k : Kind) (d : Role) (ds : List Role) (n : ℕ) (l : List Entry) (s : State) → is_deadline d ≡ true → EachFits l → AfterIdles k ds (CutOnce k d ds) n l → Stood (standing s l)
+cut_work k d ds zero l s h f w = cut_once k d ds l s h f w
+cut_work k d ds (suc n) l s h f (a, b, e, i, w) =
+    let g = fits_of a b (subst EachFits e f) in
+    subst (λ m. Stood (standing s m)) (sym e) (subst Stood (sym (standing-append a b s)) (cut_work k d ds n b (standing s a) h g.1 w))
+
+-- words that a deadline cuts
+abbrev pub CutStands : Production → Type 0
+CutStands p = (ds : List Role) (d : Role) (i : Bool) (s : State) (l : List Entry) → is_deadline d ≡ true → EachFits l → Word p ds (CutBy d i) s l → Stood (standing s l)
+
+pub joined : (P : State → Type 0) (a b l : List Entry) (s : State) → l ≡ a ++ b → P (standing (standing s a) b) → P (standing s l)
+joined P a b l s e h = subst (λ m. P (standing s m)) (sym e) (subst P (sym (standing-append a b s)) h)
+
+cut_rounds : (p q : Production) → CutStands p → CutStands q → (ds : List Role) (d : Role) (i : Bool) (n : ℕ) (s : State) (l : List Entry) → is_deadline d ≡ true → EachFits l →
+    RoundsOf (Word p ds) (Word q ds) n (CutBy d i) s l → Stood (standing s l)
+cut_rounds p q f g ds d i zero s l h fit (x, w) = f ds d i s l h fit w
+cut_rounds p q f g ds d i (suc n) s l h fit (a, b, e, v, w) =
+    joined Stood a b l s e (cut_rounds q q g g ds d i n (standing s a) b h (fits_of a b (subst EachFits e fit)).1 w)
+
+marked_cut : (y : End) (d : Role) (i : Bool) → CutBy d i ≡ marked y → (j : Bool) × (y ≡ CutBy d j)
+marked_cut Ended d i e = absurd (cc)
+marked_cut Further d i e = absurd (cc)
+marked_cut (CutBy c j) d i e = (j, grind (arith, e))
+
+pub cut_stands : (p : Production) → CutStands p
+cut_stands Nothing ds d i s l h f (e, n) = absurd (cc)
+cut_stands Again ds d i s l h f (e, n) = absurd (cc)
+cut_stands (Work k) ds d i s l h f (inl (e, w)) = absurd (cc)
+cut_stands (Work k) ds d i s l h f (inr (c, e, (n, w))) = cut_work k d ds n l s h f (subst (λ x. AfterIdles k ds (CutOnce k x ds) n l) (grind (arith, e)) w)
+cut_stands (p ⨟ q) ds d i s l h f (inl (a, b, e, v, w)) = joined Stood a b l s e (cut_stands q ds d i (standing s a) b h (fits_of a b (subst EachFits e f)).1 w)
+cut_stands (p ⨟ q) ds d i s l h f (inr (x, w)) = cut_stands p ds d i s l h f w
+cut_stands (Where test p q) ds d i s l h f w =
+    (elim (test s) as (λ b. cond b (Word p ds (CutBy d i) s l) (Word q ds (CutBy d i) s l) → Stood (standing s l)) [
+      | true ↦ λ v. cut_stands p ds d i s l h f v
+      | false ↦ λ v. cut_stands q ds d i s l h f v
+    ]) w
+cut_stands (Rounds p q) ds d i s l h f (n, w) = cut_rounds p q (cut_stands p) (cut_stands q) ds d i n s l h f w
+cut_stands (InAttempt p) ds d i s l h f (y, e, w) =
+    let m = marked_cut y d i e in
+    cut_stands p ds d m.0 s l h f (subst (λ x. Word p ds x s l) m.1 w)
+cut_stands (Under c p q) ds d i s l h f (a, b, Ended, e, v, (x, n)) = absurd (cc)
+cut_stands (Under c p q) ds d i s l h f (a, b, Further, e, v, (x, n)) = absurd (cc)
+cut_stands (Under c p q) ds d i s l h f (a, b, CutBy g j, e, v, w) =
+    let fit = fits_of a b (subst EachFits e f) in
+    (elim (same_role c g) as (λ t. cond t (cond j (Word q ds (CutBy d i) (standing s a) b) ((CutBy d i ≡ Ended) × (b ≡ []))) ((CutBy d i ≡ CutBy g j) × (b ≡ [])) → Stood (standing s l)) [
+      | true ↦
+          elim j as (λ t. cond t (Word q ds (CutBy d i) (standing s a) b) ((CutBy d i ≡ Ended) × (b ≡ [])) → Stood (standing s l)) [
+            | true ↦ λ u. joined Stood a b l s e (cut_stands q ds d i (standing s a) b h fit.1 u)
+            | false ↦ λ u. absurd (let z = u.0 in cc)
+          ]
+      | false ↦ λ u.
+          joined Stood a b l s e (subst (λ m. Stood (standing (standing s a) m)) (sym u.1) (cut_stands p (c ∷ ds) d i s a h fit.0 (subst (λ x. Word p (c ∷ ds) x s a) (sym u.0) v)))
+    ]) w
+
+-- ---- words that keep an outcome, and words that leave one
+
+abbrev pub Keeps : Production → Type 0
+Keeps p = (ds : List Role) (s : State) (l : List Entry) → EachFits l → Word p ds Ended s l → Stood s → Stood (standing s l)
+
+abbrev pub Gives : Production → Type 0
+Gives p = (ds : List Role) (s : State) (l : List Entry) → EachFits l → Word p ds Ended s l → Sound s → Stood (standing s l)
+
+pub keeps_nothing : Keeps Nothing
+keeps_nothing ds s l f (e, n) h = subst (λ m. Stood (standing s m)) (sym n) h
+
+pub keeps_work : (k : Kind) → is_calm k ≡ true → Keeps (Work k)
+keeps_work k c ds s l f (inl (e, (n, w))) h = worked_stands k ds n l s c f w h
+keeps_work k c ds s l f (inr (d, e, w)) h = absurd (cc)
+
+pub keeps_then : (p q : Production) → Keeps p → Keeps q → Keeps (p ⨟ q)
+keeps_then p q f g ds s l fit (inl (a, b, e, v, w)) h =
+    let x = fits_of a b (subst EachFits e fit) in
+    joined Stood a b l s e (g ds (standing s a) b x.1 w (f ds s a x.0 v h))
+keeps_then p q f g ds s l fit (inr (x, w)) h = absurd (cc)
+
+pub keeps_where : (t : State → Bool) (p q : Production) → Keeps p → Keeps q → Keeps (Where t p q)
+keeps_where t p q f g ds s l fit w h =
+    (elim (t s) as (λ b. cond b (Word p ds Ended s l) (Word q ds Ended s l) → Stood (standing s l)) [
+      | true ↦ λ v. f ds s l fit v h
+      | false ↦ λ v. g ds s l fit v h
+    ]) w
+
+pub gives_then : (p q : Production) → Gives p → Keeps q → Gives (p ⨟ q)
+gives_then p q f g ds s l fit (inl (a, b, e, v, w)) h =
+    let x = fits_of a b (subst EachFits e fit) in
+    joined Stood a b l s e (g ds (standing s a) b x.1 w (f ds s a x.0 v h))
+gives_then p q f g ds s l fit (inr (x, w)) h = absurd (cc)
+
+-- what is behind a production leaves an outcome, whatever that does
+pub gives_after : (p q : Production) → Gives q → Gives (p ⨟ q)
+gives_after p q g ds s l fit (inl (a, b, e, v, w)) h =
+    let x = fits_of a b (subst EachFits e fit) in
+    joined Stood a b l s e (g ds (standing s a) b x.1 w (sound_on a s x.0 h))
+gives_after p q g ds s l fit (inr (x, w)) h = absurd (cc)
+
+pub gives_halt : (q : Production) → Gives q → Gives (Where failed Nothing q)
+gives_halt q g ds s l fit w h =
+    (elim (failed s) as (λ b. failed s ≡ b → cond b (Word Nothing ds Ended s l) (Word q ds Ended s l) → Stood (standing s l)) [
+      | true ↦ λ e v. keeps_nothing ds s l fit v (h e)
+      | false ↦ λ e v. g ds s l fit v h
+    ]) refl w
+
+pub gives_where : (t : State → Bool) (p q : Production) → Gives p → Gives q → Gives (Where t p q)
+gives_where t p q f g ds s l fit w h =
+    (elim (t s) as (λ b. cond b (Word p ds Ended s l) (Word q ds Ended s l) → Stood (standing s l)) [
+      | true ↦ λ v. f ds s l fit v h
+      | false ↦ λ v. g ds s l fit v h
+    ]) w
+
+marked_ended : (y : End) → Ended ≡ marked y → y ≡ Ended
+marked_ended Ended e = refl
+marked_ended Further e = absurd (cc)
+marked_ended (CutBy d i) e = absurd (cc)
+
+pub gives_in_attempt : (p : Production) → Gives p → Gives (InAttempt p)
+gives_in_attempt p g ds s l f (y, e, w) h = g ds s l f (subst (λ x. Word p ds x s l) (marked_ended y e) w) h
+
+gives_rounds_of : (p q : Production) → Gives p → Gives q → (ds : List Role) (n : ℕ) (s : State) (l : List Entry) → EachFits l → RoundsOf (Word p ds) (Word q ds) n Ended s l → Sound s →
+    Stood (standing s l)
+gives_rounds_of p q f g ds zero s l fit (x, w) h = f ds s l fit w h
+gives_rounds_of p q f g ds (suc n) s l fit (a, b, e, v, w) h =
+    let x = fits_of a b (subst EachFits e fit) in
+    joined Stood a b l s e (gives_rounds_of q q g g ds n (standing s a) b x.1 w (sound_on a s x.0 h))
+
+pub gives_rounds : (p q : Production) → Gives p → Gives q → Gives (Rounds p q)
+gives_rounds p q f g ds s l fit (n, w) h = gives_rounds_of p q f g ds n s l fit w h
+
+is_deadline_of : (c d : Role) → is_deadline c ≡ true → same_role c d ≡ true → is_deadline d ≡ true
+is_deadline_of roles.Operation roles.Operation h e = refl
+is_deadline_of roles.Attempt roles.Attempt h e = refl
+is_deadline_of _ _ h e = absurd (cc)
+
+pub gives_under : (c : Role) (p q : Production) → is_deadline c ≡ true → Gives p → Keeps q → Gives (Under c p q)
+gives_under c p q i f g ds s l fit (a, b, Ended, e, v, (x, n)) h =
+    let y = fits_of a b (subst EachFits e fit) in
+    joined Stood a b l s e (subst (λ m. Stood (standing (standing s a) m)) (sym n) (f (c ∷ ds) s a y.0 v h))
+gives_under c p q i f g ds s l fit (a, b, Further, e, v, (x, n)) h = absurd (cc)
+gives_under c p q i f g ds s l fit (a, b, CutBy d j, e, v, w) h =
+    let y = fits_of a b (subst EachFits e fit) in
+    (elim (same_role c d) as (λ t. same_role c d ≡ t → cond t (cond j (Word q ds Ended (standing s a) b) ((Ended ≡ Ended) × (b ≡ []))) ((Ended ≡ CutBy d j) × (b ≡ [])) → Stood (standing s l)) [
+      | true ↦ λ t.
+          let k = cut_stands p (c ∷ ds) d j s a (is_deadline_of c d i t) y.0 v in
+          elim j as (λ z. cond z (Word q ds Ended (standing s a) b) ((Ended ≡ Ended) × (b ≡ [])) → Stood (standing s l)) [
+            | true ↦ λ u. joined Stood a b l s e (g ds (standing s a) b y.1 u k)
+            | false ↦ λ u. joined Stood a b l s e (subst (λ m. Stood (standing (standing s a) m)) (sym u.1) k)
+          ]
+      | false ↦ λ t u. absurd (let z = u.0 in cc)
+    ]) refl w

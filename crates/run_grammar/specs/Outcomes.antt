@@ -1,0 +1,11 @@
+-- What stands at the end of a whole run.
+use Rattle.std.specs.Prelude.{true, is_some, List, ◌≡◌}
+use Rattle.smithy_base.specs.declared.kinds.StopPoint.TheVariants as stops
+use Rattle.smithy_base.specs.declared.payload.Payload.{Payload}
+use Rattle.run_grammar.specs.declared.answer.Entry.{Entry}
+use Rattle.run_grammar.specs.Standing.{standing, start}
+use Rattle.run_grammar.specs.Laws.{IsWhole}
+
+-- at the end of a whole run without a stop point an output or a failure stands
+abbrev pub OutcomeStands : Type 0
+OutcomeStands = (p : Payload) (l : List Entry) → IsWhole stops.None (start p) l → is_some (standing (start p) l).context.context.view.outcome ≡ true
