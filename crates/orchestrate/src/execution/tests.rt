@@ -80,7 +80,8 @@ fn an_operation_runs_over_payloads(rt: HostRuntime) -> Result<(), Fail> {
             Err(InvokeError::Sdk(SdkError::ConstructionFailure(_)))
         )
     );
-    assert_eq!(rt; operation.service_name(), "service");
-    assert_eq!(rt; operation.operation_name(), "operation");
+    let copy = operation.clone()?;
+    assert_eq!(rt; copy.service_name(), "service");
+    assert_eq!(rt; copy.operation_name(), "operation");
     Ok(())
 }
