@@ -10,3 +10,10 @@ pub mod Going
 pub mod Closed
 pub mod TheLaws
 pub mod CaseProofs
+pub mod Watch
+pub mod Watching
+pub mod Stages
+pub mod WatchedRun
+pub mod AttemptLaw
+pub mod FinalLaw
+pub mod ScopeLaw

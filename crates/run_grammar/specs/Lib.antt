@@ -10,4 +10,6 @@ pub mod Grammar
 pub mod Machine
 pub mod Laws
 pub mod Cases
+pub mod Attempts
 pub mod Finals
+pub mod Scopes
