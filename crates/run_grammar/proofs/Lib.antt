@@ -17,3 +17,4 @@ pub mod WatchedRun
 pub mod AttemptLaw
 pub mod FinalLaw
 pub mod ScopeLaw
+pub mod Breaking

@@ -13,7 +13,7 @@ use Rattle.run_grammar.specs.declared.answer.Answer.TheVariants as answers
 use Rattle.run_grammar.specs.declared.answer.Entry.{Entry}
 use Rattle.run_grammar.specs.Entry.{kind_of, pending, ready, can_wait, is_pending, is_ready, abandon_of, is_wait_of_deadline}
 use Rattle.run_grammar.specs.Attempts.{asked_of, begins_attempt, up_to_attempt}
-use Rattle.run_grammar.specs.Scopes.{is_of_attempt, abandoned_of_attempt, completes_attempt, still_open, last_asked, kinds_of, the_finalizers, with_completion, AttemptOver, OperationOver, ScopesEnd}
+use Rattle.run_grammar.specs.Scopes.{is_of_attempt, abandoned_of_attempt, completes_attempt, still_open, last_asked, kinds_of, the_finalizers, with_completion, AttemptOver, OperationOver, AttemptScopesEnd, OperationScopesEnd}
 use Rattle.run_grammar.proofs.Watch.{Class, Begins, Within, Modifies, Reads, Finalizes, Concludes, Awaits, Other, hook_class, class_of, Stage, Outside, Open, Closed, Settling, CutOpen, CutSettling, CutOutside, Finishing, Over, Wrong, moved, may_wait, cut_at, lets, gives_up, abandons, both, is_abandon_of, Watch, Resting, Waiting, Cutting, asked_at, waited, at_wait, after_cutting, watch, watched, stage}
 use Rattle.run_grammar.proofs.Stages.{Fine, Next, asked_stage, is_of, way, way_hook, next_is, not_wrong, over_is_last}
 use Rattle.run_grammar.proofs.WatchedRun.{run_fine}
@@ -335,10 +335,12 @@ attempt_over before after (p, g, i, j, h, m, f) =
     let (y, z, c, v, t) = next_is Settling r refl u in
     (a, x, y, z, n ∙ ap (λ s. a ∷ s) (o ∙ ap (λ s. x ∷ s) c), (p, i, j, k), q, v, none_of_attempt z (Resting Outside) t refl)
 
-pub scopes_end : ScopesEnd
+pub attempt_scopes_end : AttemptScopesEnd
 unfolding is_open
-scopes_end stop s before e after w r =
-    let f = run_fine stop s (before ++ e ∷ after) w.run in (
-      λ k. attempt_over before after (cut_there before (Resting Outside) roles.Attempt e after None false refl k r refl f),
-      λ k. operation_over before after (cut_there before (Resting Outside) roles.Operation e after None false refl k r refl f),
-    )
+attempt_scopes_end stop s before e after w k r =
+    attempt_over before after (cut_there before (Resting Outside) roles.Attempt e after None false refl k r refl (run_fine stop s (before ++ e ∷ after) w.run))
+
+pub operation_scopes_end : OperationScopesEnd
+unfolding is_open
+operation_scopes_end stop s before e after w k r =
+    operation_over before after (cut_there before (Resting Outside) roles.Operation e after None false refl k r refl (run_fine stop s (before ++ e ∷ after) w.run))

@@ -13,3 +13,4 @@ pub mod Cases
 pub mod Attempts
 pub mod Finals
 pub mod Scopes
+pub mod Breaks

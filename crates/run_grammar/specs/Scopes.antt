@@ -90,7 +90,12 @@ OperationOver before after =
     (a : Entry) × (rest : List Entry) × (after ≡ a ∷ rest) × GivesUp before a
     × (kinds_of rest ≡ with_completion (still_open false before) the_finalizers)
 
--- e is the Wait of a deadline, answered Ready, between these entries of a whole list
-abbrev pub ScopesEnd : Type 0
-ScopesEnd = (stop : StopPoint) (s : State) (before : List Entry) (e : Entry) (after : List Entry) → IsWhole stop s (before ++ e ∷ after) → ready e ≡ true →
-    (kind_of e ≡ kinds.Wait roles.Attempt → AttemptOver before after) × (kind_of e ≡ kinds.Wait roles.Operation → OperationOver before after)
+-- e is the Wait of the attempt's deadline, answered Ready, between these entries of a whole list
+abbrev pub AttemptScopesEnd : Type 0
+AttemptScopesEnd = (stop : StopPoint) (s : State) (before : List Entry) (e : Entry) (after : List Entry) → IsWhole stop s (before ++ e ∷ after) →
+    kind_of e ≡ kinds.Wait roles.Attempt → ready e ≡ true → AttemptOver before after
+
+-- the same of the operation's deadline
+abbrev pub OperationScopesEnd : Type 0
+OperationScopesEnd = (stop : StopPoint) (s : State) (before : List Entry) (e : Entry) (after : List Entry) → IsWhole stop s (before ++ e ∷ after) →
+    kind_of e ≡ kinds.Wait roles.Operation → ready e ≡ true → OperationOver before after

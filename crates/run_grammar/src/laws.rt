@@ -8,8 +8,9 @@ ghost use Rattle.run_grammar.specs.Machine.{Accepts, begin};
 ghost use Rattle.run_grammar.specs.Cases.{RunCases};
 ghost use Rattle.run_grammar.specs.Laws.{GoesOn, IsRun, NoPrefix, OneQuestion};
 ghost use Rattle.run_grammar.specs.Attempts.{AttemptsComplete};
+ghost use Rattle.run_grammar.specs.Breaks.{NoLateQuestion, NoMissingFinalizers, NoOpenAttempt};
 ghost use Rattle.run_grammar.specs.Finals.{FinalizersOnce};
-ghost use Rattle.run_grammar.specs.Scopes.{ScopesEnd};
+ghost use Rattle.run_grammar.specs.Scopes.{AttemptScopesEnd, OperationScopesEnd};
 
 /// A list is a run exactly where the machine that takes one entry at a time accepts it.
 pub fn runs_are_accepted()
@@ -55,5 +56,15 @@ pub fn both_finalizers_once()
 /// to the next `read_before_attempt`. After the operation's they follow only where an attempt is
 /// open, then the two finalizers, and nothing more.
 pub fn scopes_end()
-    ensures { ScopesEnd }
+    ensures of_attempts { AttemptScopesEnd }
+    ensures of_operations { OperationScopesEnd }
+{}
+
+/// Lists that break one of these laws are not whole: an attempt is begun and no completion hook
+/// follows; no finalizer is asked, though each Configure answered Layer; or a question of an
+/// attempt is asked behind the entry after a deadline's Ready.
+pub fn broken_lists_are_not_whole()
+    ensures open_attempt { NoOpenAttempt }
+    ensures missing_finalizers { NoMissingFinalizers }
+    ensures late_question { NoLateQuestion }
 {}
