@@ -71,17 +71,13 @@ open_moved Finishing Concludes b n h = h
 open_moved _ _ b n h = absurd (n refl)
 
 -- no deadline's Wait moves a stage
+wrong_await : (g : Stage) → moved g Awaits ≡ Wrong
+wrong_await Outside = refl
+wrong_await _ = refl
+
 no_wait : (g : Stage) (k : Kind) → (moved g (class_of k) ≡ Wrong → ⊥) → is_wait_of_deadline k ≡ false
 no_wait g (kinds.Wait roles.Operation) n = absurd (n (wrong_await g))
-  where
-    wrong_await : (g : Stage) → moved g Awaits ≡ Wrong
-    wrong_await Outside = refl
-    wrong_await _ = refl
 no_wait g (kinds.Wait roles.Attempt) n = absurd (n (wrong_await g))
-  where
-    wrong_await : (g : Stage) → moved g Awaits ≡ Wrong
-    wrong_await Outside = refl
-    wrong_await _ = refl
 no_wait g (kinds.Wait _) n = refl
 no_wait g _ n = refl
 
@@ -188,16 +184,16 @@ abandoned_next p d g [] (inr e) = absurd (cc)
 abandoned_next p d g (a ∷ rest) f =
     let c = abandons_by (abandons g (kind_of p) (kind_of a)) d g rest f in (a, rest, refl, is_abandon_of g (kind_of p) (kind_of a) c.0, c.1)
 
-kinds_two : (g : Stage) (l : List Entry) (k : List Kind) → Next g l → ((r : List Entry) → Fine (watched (Resting (moved g (way g))) r) → kinds_of r ≡ k) → kinds_of l ≡ kinds.Hook (way_hook g) ∷ k
-kinds_two g l k (e, r, n, h, f) t = ap kinds_of n ∙ ap (λ j. j ∷ kinds_of r) h ∙ ap (λ o. kinds.Hook (way_hook g) ∷ o) (t r f)
+kinds_next : (g : Stage) (l : List Entry) (k : List Kind) → Next g l → ((r : List Entry) → Fine (watched (Resting (moved g (way g))) r) → kinds_of r ≡ k) → kinds_of l ≡ kinds.Hook (way_hook g) ∷ k
+kinds_next g l k (e, r, n, h, f) t = ap kinds_of n ∙ ap (λ j. j ∷ kinds_of r) h ∙ ap (λ o. kinds.Hook (way_hook g) ∷ o) (t r f)
 
 finishing_kinds : (l : List Entry) → Fine (watched (Resting CutOutside) l) → kinds_of l ≡ the_finalizers
 finishing_kinds l f =
-    kinds_two CutOutside l _ (next_is CutOutside l refl f) (λ m g. kinds_two Finishing m [] (next_is Finishing m refl g) (λ r h. ap kinds_of (over_is_last r h)))
+    kinds_next CutOutside l _ (next_is CutOutside l refl f) (λ m g. kinds_next Finishing m [] (next_is Finishing m refl g) (λ r h. ap kinds_of (over_is_last r h)))
 
 settling_kinds : (l : List Entry) → Fine (watched (Resting CutOpen) l) → kinds_of l ≡ with_completion true the_finalizers
 settling_kinds l f =
-    kinds_two CutOpen l _ (next_is CutOpen l refl f) (λ m g. kinds_two CutSettling m _ (next_is CutSettling m refl g) (λ r h. finishing_kinds r h))
+    kinds_next CutOpen l _ (next_is CutOpen l refl f) (λ m g. kinds_next CutSettling m _ (next_is CutSettling m refl g) (λ r h. finishing_kinds r h))
 
 rest_kinds : (g : Stage) (b : Bool) (l : List Entry) → may_wait g roles.Operation ≡ true → b ≡ is_open g → Fine (watched (Resting (cut_at roles.Operation g)) l) →
     kinds_of l ≡ with_completion b the_finalizers

@@ -13,15 +13,22 @@ use Rattle.run_grammar.specs.Entry.{kind_of, pending, ready, can_wait, abandon_o
 
 -- what a question is to the watcher
 pub data Class : Type 0 where
+  -- read_before_attempt
   Begins : Class
+  -- any further question of an attempt
   Within : Class
+  -- modify_before_attempt_completion, and read_after_attempt
   Modifies : Class
   Reads : Class
+  -- modify_before_completion, and read_after_execution
   Finalizes : Class
   Concludes : Class
+  -- the Wait of a deadline
   Awaits : Class
+  -- Abandon, and Park
   GivesUp : Class
   Parks : Class
+  -- any other question
   Other : Class
 
 abbrev pub hook_class : Hook → Class
@@ -57,17 +64,24 @@ class_of (kinds.Abandon x) = GivesUp
 class_of kinds.Park = Parks
 class_of _ = Other
 
--- no attempt is open; one is open; its deadline cut it; its completion was modified; the same three where the operation's deadline cut the run
+-- where a run is
 pub data Stage : Type 0 where
+  -- no attempt is open
   Outside : Stage
+  -- an attempt is open
   Open : Stage
+  -- its deadline cut it
   Closed : Stage
+  -- its completion was modified
   Settling : Stage
+  -- the operation's deadline cut the run: with an attempt open, with its completion modified, with none open
   CutOpen : Stage
   CutSettling : Stage
   CutOutside : Stage
+  -- between the finalizers, and behind them
   Finishing : Stage
   Over : Stage
+  -- no whole list comes here
   Wrong : Stage
 
 abbrev pub moved : Stage → Class → Stage
