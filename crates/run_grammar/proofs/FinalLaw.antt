@@ -1,4 +1,4 @@
--- Law (e): both finalizers once.
+-- Both finalizers once.
 use Rattle.std.proofs.Common.{Bool, true, false, cond, List, [], ◌∷◌, ◌++◌, ◌≡◌, ◌⊎◌, refl, sym, ap, ◌∙◌, subst, inl, inr}
 use Rattle.smithy_base.specs.declared.hook.Hook.{Hook}
 use Rattle.smithy_base.specs.declared.hook.Hook.TheVariants as hooks

@@ -1,4 +1,4 @@
--- Law (f): nothing of its scope follows a deadline that is over.
+-- Nothing of its scope follows a deadline that is over.
 use Rattle.std.proofs.Common.{Bool, true, false, cond, Option, None, Some, List, [], ◌∷◌, ◌++◌, ◌≡◌, ◌⊎◌, refl, sym, ap, ◌∙◌, subst, inl, inr}
 use Rattle.smithy_base.specs.declared.hook.Hook.{Hook}
 use Rattle.smithy_base.specs.declared.hook.Hook.TheVariants as hooks

@@ -1,4 +1,4 @@
--- Law (d): each attempt has its two completion hooks once.
+-- Each attempt has its two completion hooks once.
 use Rattle.std.specs.Prelude.{Bool, true, false, cond, List, [], ◌∷◌, ◌≡◌}
 use Rattle.smithy_base.specs.declared.hook.Hook.TheVariants as hooks
 use Rattle.smithy_base.specs.declared.kinds.StopPoint.{StopPoint}

@@ -1,4 +1,4 @@
--- Law (e): both finalizers once.
+-- Both finalizers once.
 use Rattle.std.specs.Prelude.{Bool, true, false, cond, List, [], ◌∷◌, ◌++◌, ◌≡◌}
 use Rattle.smithy_base.specs.declared.hook.Hook.TheVariants as hooks
 use Rattle.smithy_base.specs.declared.kinds.StopPoint.{StopPoint}
