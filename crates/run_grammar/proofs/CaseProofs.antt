@@ -15,7 +15,7 @@ use Rattle.run_grammar.specs.Cases.{AndThen, armed_after, OpThenFinish, CutOpThe
 use Rattle.run_grammar.proofs.Spots.{carry, carry_back, at_nil}
 use Rattle.run_grammar.proofs.Up.{join}
 
-abbrev Ends : Production → State → List Entry → Type 0
+abbrev pub Ends : Production → State → List Entry → Type 0
 Ends p s l = Word p [] Ended s l
 
 split : (p q : Production) (s : State) (l : List Entry) → Ends (p ⨟ q) s l → AndThen p s l (λ t m. Ends q t m)
@@ -23,10 +23,10 @@ split p q s l (inl v) = v
 split p q s l (inr (h, v)) = absurd (cc)
 
 -- what a production that stops where something failed, and else goes on with p, comes to
-abbrev Halts : (Production → Production) → Production → State → List Entry → Type 0
+abbrev pub Halts : (Production → Production) → Production → State → List Entry → Type 0
 Halts c p s l = (Ends (c Nothing) s l × (failed (standing s l) ≡ true)) ⊎ AndThen (c Nothing) s l (λ t m. (failed t ≡ false) × Ends p t m)
 
-abbrev Halting : (Production → Production) → Type 0
+abbrev pub Halting : (Production → Production) → Type 0
 Halting c = (p : Production) (s : State) (l : List Entry) → Ends (c p) s l → Halts c p s l
 
 abbrev Halted : (Production → Production) → Type 0
@@ -118,10 +118,10 @@ where_halted c f p s l (inr (a, b, e, w, (g, y))) =
 abbrev base : Production → Production
 base p = Where failed Nothing p
 
-abbrev third : Production → Production
+abbrev pub third : Production → Production
 third p = hook ReadBeforeExecutionOperation ⨟ Work (Configure stages.Final) ⨟ Where failed Nothing p
 
-abbrev second : Production → Production
+abbrev pub second : Production → Production
 second p = hook ReadBeforeExecutionClient ⨟ Work (Configure stages.Operation) ⨟ Where failed Nothing (third p)
 
 third_halting : Halting third
@@ -140,7 +140,7 @@ second_halted =
     seq_halted (hook ReadBeforeExecutionClient) (λ p. Work (Configure stages.Operation) ⨟ unless third p)
     (seq_halted (Work (Configure stages.Operation)) (unless third) (where_halted third third_halted))
 
-config_halting : Halting configured
+pub config_halting : Halting configured
 config_halting = seq_halting (Work (Configure stages.Client)) (unless second) (where_halting second second_halting)
 
 config_halted : Halted configured
@@ -149,7 +149,7 @@ config_halted = seq_halted (Work (Configure stages.Client)) (unless second) (whe
 abbrev scoped : StopPoint → Production
 scoped stop = Where (started Operation) (Under Operation (op stop) settle) (op stop)
 
-abbrev body : StopPoint → Production
+abbrev pub body : StopPoint → Production
 body stop = Where failure_stands (arm Operation ⨟ finish) (armed Operation (op stop) settle ⨟ finish)
 
 -- what follows Arm(Operation)

@@ -13,3 +13,11 @@ pub mod CaseProofs
 pub mod Outcomes
 pub mod OutcomeWords
 pub mod OutcomeProofs
+pub mod Watch
+pub mod Watching
+pub mod Stages
+pub mod WatchedRun
+pub mod AttemptLaw
+pub mod FinalLaw
+pub mod ScopeLaw
+pub mod Breaking

@@ -1,35 +1,40 @@
--- Law (e): both finalizers once.
-use Rattle.std.specs.Prelude.{Bool, true, false, cond, ℕ, List, [], ◌∷◌, ◌≡◌, ◌+◌}
+-- Both finalizers once.
+use Rattle.std.specs.Prelude.{Bool, true, false, cond, List, [], ◌∷◌, ◌++◌, ◌≡◌}
+use Rattle.smithy_base.specs.declared.hook.Hook.TheVariants as hooks
+use Rattle.smithy_base.specs.declared.kinds.StopPoint.{StopPoint}
 use Rattle.run_grammar.specs.declared.kind.Kind.{Kind}
 use Rattle.run_grammar.specs.declared.kind.Kind.TheVariants as kinds
-use Rattle.smithy_base.specs.declared.hook.Hook.TheVariants.{ModifyBeforeCompletion, ReadAfterExecution}
+use Rattle.run_grammar.specs.declared.answer.Answer.{Answer}
+use Rattle.run_grammar.specs.declared.answer.Answer.TheVariants as answers
 use Rattle.run_grammar.specs.declared.answer.Entry.{Entry}
-use Rattle.smithy_base.specs.declared.kinds.StopPoint.{StopPoint}
-use Rattle.run_grammar.specs.Entry.{kind_of, fails}
+use Rattle.run_grammar.specs.Entry.{kind_of}
 use Rattle.run_grammar.specs.Standing.{State}
 use Rattle.run_grammar.specs.Laws.{IsWhole}
+use Rattle.run_grammar.specs.Attempts.{asked_of}
 
-abbrev pub is_modify_before_completion : Kind → Bool
-is_modify_before_completion (kinds.Hook ModifyBeforeCompletion) = true
-is_modify_before_completion _ = false
-
-abbrev pub is_read_after_execution : Kind → Bool
-is_read_after_execution (kinds.Hook ReadAfterExecution) = true
-is_read_after_execution _ = false
+abbrev pub is_finalizer : Kind → Bool
+is_finalizer (kinds.Hook hooks.ModifyBeforeCompletion) = true
+is_finalizer (kinds.Hook hooks.ReadAfterExecution) = true
+is_finalizer _ = false
 
 abbrev pub is_configure : Kind → Bool
-is_configure (kinds.Configure w) = true
+is_configure (kinds.Configure stage) = true
 is_configure _ = false
 
--- each Configure is answered Layer
-abbrev pub AllConfigured : List Entry → Type 0
-AllConfigured [] = Unit {0}
-AllConfigured (e ∷ l) = (cond (is_configure (kind_of e)) (fails e) false ≡ false) × AllConfigured l
+abbrev pub is_layer : Answer → Bool
+is_layer (answers.Layer l) = true
+is_layer _ = false
 
-abbrev pub asked_times : (Kind → Bool) → List Entry → ℕ
-asked_times test [] = 0
-asked_times test (e ∷ l) = cond (test (kind_of e)) (1 + asked_times test l) (asked_times test l)
+-- each Configure is answered Layer
+abbrev pub EachConfigured : List Entry → Type 0
+EachConfigured [] = Unit {0}
+EachConfigured (e ∷ l) = (cond (is_configure (kind_of e)) (is_layer e.answer) true ≡ true) × EachConfigured l
+
+-- the last two entries ask the two finalizers, and no other entry asks one
+abbrev pub Finalized : List Entry → Type 0
+Finalized l =
+    (a : List Entry) × (m : Entry) × (r : Entry) × (l ≡ a ++ m ∷ r ∷ []) × (asked_of is_finalizer a ≡ [])
+    × (kind_of m ≡ kinds.Hook hooks.ModifyBeforeCompletion) × (kind_of r ≡ kinds.Hook hooks.ReadAfterExecution)
 
 abbrev pub FinalizersOnce : Type 0
-FinalizersOnce = (stop : StopPoint) (s : State) (l : List Entry) → IsWhole stop s l → AllConfigured l →
-    (asked_times is_modify_before_completion l ≡ 1) × (asked_times is_read_after_execution l ≡ 1)
+FinalizersOnce = (stop : StopPoint) (s : State) (l : List Entry) → IsWhole stop s l → EachConfigured l → Finalized l

@@ -10,5 +10,8 @@ pub mod Grammar
 pub mod Machine
 pub mod Laws
 pub mod Cases
+pub mod Attempts
 pub mod Finals
 pub mod Outcomes
+pub mod Scopes
+pub mod Breaks

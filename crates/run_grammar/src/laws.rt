@@ -8,6 +8,10 @@ ghost use Rattle.run_grammar.specs.Machine.{Accepts, begin};
 ghost use Rattle.run_grammar.specs.Cases.{RunCases};
 ghost use Rattle.run_grammar.specs.Laws.{GoesOn, IsRun, NoPrefix, OneQuestion};
 ghost use Rattle.run_grammar.specs.Outcomes.{OutcomeStands};
+ghost use Rattle.run_grammar.specs.Attempts.{AttemptsComplete};
+ghost use Rattle.run_grammar.specs.Breaks.{NoLateQuestion, NoMissingFinalizers, NoOpenAttempt};
+ghost use Rattle.run_grammar.specs.Finals.{FinalizersOnce};
+ghost use Rattle.run_grammar.specs.Scopes.{AttemptScopesEnd, OperationScopesEnd};
 
 /// A list is a run exactly where the machine that takes one entry at a time accepts it.
 pub fn runs_are_accepted()
@@ -38,4 +42,35 @@ pub fn a_begun_list_goes_on()
 /// At the end of a whole run without a stop point an output or a failure stands.
 pub fn an_outcome_stands()
     ensures { OutcomeStands }
+{}
+
+/// In a whole list no completion hook of an attempt comes before the first attempt; and from each
+/// `read_before_attempt` up to the next one `modify_before_attempt_completion` and
+/// `read_after_attempt` come once each, in this order, also where a deadline cut the attempt.
+pub fn attempts_complete()
+    ensures { AttemptsComplete }
+{}
+
+/// A whole list whose Configures all answered Layer ends with `modify_before_completion` and
+/// `read_after_execution`, and has neither of them before.
+pub fn both_finalizers_once()
+    ensures { FinalizersOnce }
+{}
+
+/// Where a deadline answered Ready in a whole list, next comes the Abandon of what was pending.
+/// After the attempt's deadline the two completion hooks follow, and no question of an attempt up
+/// to the next `read_before_attempt`. After the operation's they follow only where an attempt is
+/// open, then the two finalizers, and nothing more.
+pub fn scopes_end()
+    ensures of_attempts { AttemptScopesEnd }
+    ensures of_operations { OperationScopesEnd }
+{}
+
+/// Lists that break one of these laws are not whole: an attempt is begun and no completion hook
+/// follows; no finalizer is asked, though each Configure answered Layer; or a question of an
+/// attempt is asked behind the entry after a deadline's Ready.
+pub fn broken_lists_are_not_whole()
+    ensures open_attempt { NoOpenAttempt }
+    ensures missing_finalizers { NoMissingFinalizers }
+    ensures late_question { NoLateQuestion }
 {}
