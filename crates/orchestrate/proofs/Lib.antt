@@ -7,3 +7,4 @@ pub mod Telling
 pub mod Running
 pub mod Answering
 pub mod Completeness
+pub mod SpelledLaw

@@ -11,6 +11,7 @@ ghost use Rattle.orchestrate.specs.declared.invocation.Invocation.{Invocation};
 ghost use Rattle.orchestrate.specs.Answered.{OperationAnswered, PayloadAnswered};
 ghost use Rattle.orchestrate.specs.Finish.{answer_of};
 ghost use Rattle.orchestrate.specs.Handing.{HadMemory};
+ghost use Rattle.orchestrate.specs.SpelledRuns.{OneSpelledRun};
 ghost use Rattle.orchestrate.specs.Stands.{Stands};
 
 use smithy_base::Wire;
@@ -30,4 +31,10 @@ pub fn answers_are_determined()
 /// accepts answers that output.
 pub fn acceptable_outputs_are_answered<O: Wire, E: Wire>()
     ensures { (p o : Payload) (fuel : ℕ) (before l : List Entry) (r : Result O (InvokeError E)) → HadMemory r → OperationAnswered O.accepts O.reads_as E.accepts E.reads_as p fuel r before (before ++ l) → IsWhole stops.None (start p) l → answer_of (standing (start p) l).context.context ≡ Ok o → O.accepts o ≡ true → (x : O) × (r ≡ Ok x) × O.reads_as o x }
+{}
+
+/// A list of answers spells at most one run: whole within `fuel` calls, or of `fuel` calls that
+/// begin a run and are no whole one.
+pub fn a_script_spells_one_run()
+    ensures { OneSpelledRun }
 {}
