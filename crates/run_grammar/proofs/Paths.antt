@@ -1,4 +1,4 @@
--- Lists that the machine goes through, and the laws (a) and (b).
+-- Lists that the machine goes through: their fronts, and that one question continues them.
 use Rattle.std.proofs.Common.{List, [], ◌∷◌, ◌++◌, ◌≡◌, refl, sym, ap, ◌∙◌, subst}
 use Rattle.run_grammar.specs.declared.kind.Kind.{Kind}
 use Rattle.run_grammar.specs.declared.answer.Entry.{Entry}

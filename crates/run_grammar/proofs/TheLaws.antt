@@ -1,4 +1,4 @@
--- The laws (a), (b) and (c) of runs.
+-- No whole list is a prefix of another, one question continues a list, and a begun list goes on.
 use Rattle.std.proofs.Common.{sym, true, List, [], ◌∷◌, ◌++◌, ◌≡◌, refl, subst, inl, inr, append_assoc, append-nil}
 use Rattle.run_grammar.specs.declared.answer.Entry.{Entry}
 use Rattle.smithy_base.specs.declared.kinds.StopPoint.{StopPoint}
