@@ -10,3 +10,4 @@ pub mod Going
 pub mod Closed
 pub mod TheLaws
 pub mod CaseProofs
+pub mod SampleLists

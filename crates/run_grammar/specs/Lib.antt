@@ -11,3 +11,5 @@ pub mod Machine
 pub mod Laws
 pub mod Cases
 pub mod Finals
+pub mod Samples
+pub mod SampleRuns
