@@ -21,3 +21,4 @@ pub mod AttemptLaw
 pub mod FinalLaw
 pub mod ScopeLaw
 pub mod Breaking
+pub mod SampleLists

@@ -15,3 +15,5 @@ pub mod Finals
 pub mod Outcomes
 pub mod Scopes
 pub mod Breaks
+pub mod Samples
+pub mod SampleRuns

@@ -8,6 +8,7 @@ mod fits;
 pub mod kind;
 pub mod laws;
 pub mod question;
+pub mod samples;
 pub mod standing;
 
 pub use answer::{Answer, Chosen, Entry};
