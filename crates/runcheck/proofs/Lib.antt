@@ -2,3 +2,11 @@ pub mod NoFloat
 pub mod OtherLength
 pub mod Shown
 pub mod Joined
+pub mod ReadLists
+pub mod Members
+pub mod Seen
+pub mod Fresh
+pub mod HeaderReading
+pub mod LayerReading
+pub mod Keys
+pub mod Sizes

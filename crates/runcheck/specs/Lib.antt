@@ -2,6 +2,11 @@ pub mod JsonData
 pub mod Reading
 pub mod Tuples
 pub mod Plain
+pub mod Lists
 pub mod Names
+pub mod Forms
 pub mod Values
 pub mod Readings
+pub mod SettingReadings
+pub mod AnswerReadings
+pub mod Limits

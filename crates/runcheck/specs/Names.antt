@@ -1,5 +1,5 @@
 -- The names that stand in scripts and prints.
-use Rattle.std.specs.Prelude.{ℕ, List, [], ◌++◌, codes}
+use Rattle.std.specs.Prelude.{ℕ, List, [], ◌∷◌, ◌++◌, map, codes}
 use Rattle.smithy_base.specs.declared.config.RetryMode.{RetryMode}
 use Rattle.smithy_base.specs.declared.config.RetryMode.TheVariants as modes
 use Rattle.smithy_base.specs.declared.config.ReconnectMode.{ReconnectMode}
@@ -124,3 +124,40 @@ mode_text modes.Adaptive = codes "Adaptive"
 abbrev pub reconnect_text : ReconnectMode → List ℕ
 reconnect_text reconnects.ReconnectOnTransientError = codes "ReconnectOnTransientError"
 reconnect_text reconnects.ReuseAllConnections = codes "ReuseAllConnections"
+
+-- ---- all values of each kind
+
+abbrev pub error_kinds : List ErrorKind
+error_kinds = errors.TransientError ∷ errors.ThrottlingError ∷ errors.ServerError ∷ errors.ClientError ∷ []
+
+abbrev pub stop_points : List StopPoint
+stop_points = stops.None ∷ stops.BeforeTransmit ∷ []
+
+abbrev pub retry_modes : List RetryMode
+retry_modes = modes.Standard ∷ modes.Adaptive ∷ []
+
+abbrev pub reconnect_modes : List ReconnectMode
+reconnect_modes = reconnects.ReconnectOnTransientError ∷ reconnects.ReuseAllConnections ∷ []
+
+abbrev pub all_hooks : List Hook
+all_hooks = hooks.ReadBeforeExecutionClient ∷ hooks.ReadBeforeExecutionOperation ∷ hooks.ModifyBeforeSerialization ∷ hooks.ReadBeforeSerialization ∷ hooks.ReadAfterSerialization
+    ∷ hooks.ModifyBeforeRetryLoop ∷ hooks.ReadBeforeAttempt ∷ hooks.ModifyBeforeSigning ∷ hooks.ReadBeforeSigning ∷ hooks.ReadAfterSigning ∷ hooks.ModifyBeforeTransmit
+    ∷ hooks.ReadBeforeTransmit ∷ hooks.ReadAfterTransmit ∷ hooks.ModifyBeforeDeserialization ∷ hooks.ReadBeforeDeserialization ∷ hooks.ReadAfterDeserialization
+    ∷ hooks.ModifyBeforeAttemptCompletion ∷ hooks.ReadAfterAttempt ∷ hooks.ModifyBeforeCompletion ∷ hooks.ReadAfterExecution ∷ []
+
+abbrev pub all_roles : List Role
+all_roles = roles.Operation ∷ roles.Attempt ∷ roles.Send ∷ roles.Retry ∷ roles.LongPoll ∷ []
+
+abbrev pub all_stages : List ConfigureStage
+all_stages = stages.Client ∷ stages.Operation ∷ stages.Final ∷ []
+
+abbrev pub all_abandoned : List Abandonable
+all_abandoned = abandoned.Load ∷ abandoned.Choose ∷ abandoned.Endpoint ∷ abandoned.Transmit ∷ abandoned.Body ∷ abandoned.WaitSend ∷ abandoned.WaitRetry ∷ abandoned.WaitLongPoll ∷ []
+
+-- those without a part
+abbrev pub plain_kinds : List Kind
+plain_kinds = kinds.Serialize ∷ kinds.Load ∷ kinds.Initial ∷ kinds.Choose ∷ kinds.Endpoint ∷ kinds.Apply ∷ kinds.Sign ∷ kinds.Transmit ∷ kinds.Stream ∷ kinds.Body
+    ∷ kinds.Deserialize ∷ kinds.Decide ∷ kinds.Park ∷ []
+
+abbrev pub all_kinds : List Kind
+all_kinds = map kinds.Configure all_stages ++ map kinds.Hook all_hooks ++ plain_kinds ++ map kinds.Start all_roles ++ map kinds.Wait all_roles ++ map kinds.Abandon all_abandoned

@@ -1,139 +1,134 @@
--- Which value JSON spells, for the values of a first script.
-use Rattle.std.specs.Prelude.{ℕ, ◌^◌, List, [], ◌∷◌, Bool, ◌&&◌, Option, Some, None, codes, nat_le, nat_eq, option_map, if◌then◌else◌}
+-- Which value JSON spells: payloads, requests and responses, identities, endpoints, failures and outcomes.
+use Rattle.std.specs.Prelude.{ℕ, ◌^◌, List, [], ◌∷◌, Bool, true, false, ◌&&◌, Option, Some, None, codes, take, length, nat_le, nat_lt, nat_eq, if◌then◌else◌}
 use Rattle.std.specs.Cmp.Lexicographic.{pointwise}
 use Rattle.std.specs.List.{list_all}
-use Rattle.serde_json.specs.Data.{Data, null, array, Items, no_items, item}
+use Rattle.http_header.specs.FieldValue.{FieldValue, plain_value}
+use Rattle.http_header.specs.HeaderMap.{append, append_all}
+use Rattle.http_header.specs.Token.{is_token_byte, is_value_byte, lowercase}
+use Rattle.serde_json.specs.Data.{Data, null, Items}
 use Rattle.serde_json.specs.Find.{as_str, as_array}
-use Rattle.smithy_base.specs.Layer.{entry}
-use Rattle.smithy_base.specs.Setting.{key_of}
-use Rattle.smithy_base.specs.declared.config.TimeoutConfig.{TimeoutConfig}
+use Rattle.smithy_base.specs.HeaderList.{HeaderList}
+use Rattle.smithy_base.specs.declared.fault.Fault.{Fault}
+use Rattle.smithy_base.specs.declared.fault.FaultKind.{FaultKind}
+use Rattle.smithy_base.specs.declared.fault.FaultKind.TheVariants as faults
 use Rattle.smithy_base.specs.declared.fault.Outcome.{Outcome}
 use Rattle.smithy_base.specs.declared.fault.Outcome.TheVariants as outcomes
+use Rattle.smithy_base.specs.declared.http.Body.{Body}
 use Rattle.smithy_base.specs.declared.http.Body.TheVariants as bodies
 use Rattle.smithy_base.specs.declared.http.HttpRequest.{HttpRequest}
 use Rattle.smithy_base.specs.declared.http.HttpResponse.{HttpResponse}
 use Rattle.smithy_base.specs.declared.identity.Endpoint.{Endpoint}
+use Rattle.smithy_base.specs.declared.identity.EndpointHeader.{EndpointHeader}
 use Rattle.smithy_base.specs.declared.identity.Identity.{Identity}
-use Rattle.smithy_base.specs.declared.layer.LayerEntry.{LayerEntry}
-use Rattle.smithy_base.specs.declared.notes.Choice.TheVariants as choices
+use Rattle.smithy_base.specs.declared.intercept.Change.{Change}
+use Rattle.smithy_base.specs.declared.intercept.Change.TheVariants as changes
+use Rattle.smithy_base.specs.declared.kinds.ConnectorKind.{ConnectorKind}
+use Rattle.smithy_base.specs.declared.kinds.ConnectorKind.TheVariants as connectors
+use Rattle.smithy_base.specs.declared.kinds.ErrorKind.{ErrorKind}
 use Rattle.smithy_base.specs.declared.payload.Payload.{Payload}
-use Rattle.smithy_base.specs.declared.setting.Setting.TheVariants as settings
-use Rattle.run_grammar.specs.declared.answer.Answer.{Answer}
-use Rattle.run_grammar.specs.declared.answer.Answer.TheVariants as answers
-use Rattle.run_grammar.specs.declared.answer.Chosen.{Chosen}
-use Rattle.run_grammar.specs.declared.kind.Kind.{Kind}
-use Rattle.run_grammar.specs.declared.kind.Kind.TheVariants as kinds
+use Rattle.runcheck.specs.Forms.{says, starts, word_at, tagged_at, named, optional_at, texts_at, blob_at}
+use Rattle.runcheck.specs.Lists.{list_of}
+use Rattle.runcheck.specs.Names.{error_kinds, error_kind_text}
 use Rattle.runcheck.specs.Plain.{number_at, number_below, pair_at, triple_at, quadruple_at}
 use Rattle.runcheck.specs.Reading.{◌>>=◌}
-
--- ---- texts
-
--- visible ASCII and spaces
-unfoldable pub is_plain : ℕ → Bool
-is_plain b = nat_le 32 b && nat_le b 126
-
-abbrev pub plain : List ℕ → Option (List ℕ)
-plain s = if list_all is_plain s then Some s else None
-
-unfoldable pub text_at : Data → Option (List ℕ)
-text_at d = as_str d >>= plain
-
--- the text is this word
-abbrev pub same_word : List ℕ → List ℕ → Option (Unit {0})
-same_word word s = if pointwise nat_eq s word then Some tt else None
-
-unfoldable pub word_at : List ℕ → Data → Option (Unit {0})
-word_at word d = as_str d >>= same_word word
-
--- what stands beside the tag in an array of two
-unfoldable pub tagged_at : List ℕ → Data → Option Data
-tagged_at tag d = pair_at d >>= λ p. word_at tag p.0 >>= λ _. Some p.1
-
-unfoldable pub null_at : Data → Option (Unit {0})
-null_at null = Some tt
-null_at _ = None
-
-unfoldable pub empty_at : Data → Option (Unit {0})
-empty_at (array no_items) = Some tt
-empty_at _ = None
-
--- a number or null
-unfoldable pub optional_number_at : Data → Option (Option ℕ)
-optional_number_at null = Some None
-optional_number_at d = option_map Some (number_at d)
 
 -- ---- payloads, requests and responses
 
 unfoldable pub payload_at : Data → Option Payload
-payload_at d = pair_at d >>= λ p. number_below (2 ^ 32) p.0 >>= λ k. text_at p.1 >>= λ b. Some (record { kind = k; bytes = b })
+payload_at d = pair_at d >>= λ p. number_below (2 ^ 32) p.0 >>= λ k. blob_at p.1 >>= λ b. Some (record { kind = k; bytes = b })
+
+-- bytes that may name a header
+unfoldable pub is_field_name : List ℕ → Bool
+is_field_name s = nat_lt 0 (length s) && nat_le (length s) 65535 && list_all is_token_byte s
+
+abbrev pub Header : Type 0
+Header = List ℕ × FieldValue
+
+-- a name in lower case
+unfoldable pub field_name : List ℕ → Option (List ℕ)
+field_name s = if is_field_name s then Some (lowercase s) else None
+
+unfoldable pub field_value : List ℕ → Option FieldValue
+field_value b = if list_all is_value_byte b then Some (plain_value b) else None
+
+unfoldable pub header_at : Data → Option Header
+header_at d = pair_at d >>= λ p. as_str p.0 >>= field_name >>= λ n. blob_at p.1 >>= field_value >>= λ v. Some (n, v)
+
+-- All are read, and the first 33 are kept, one more than a head may have.
+abbrev pub header_items : Items → Option HeaderList
+header_items ds = list_of header_at ds >>= λ hs. Some (append_all [] (take 33 hs))
+
+unfoldable pub headers_at : Data → Option HeaderList
+headers_at d = as_array d >>= header_items
+
+abbrev pub put_within : ℕ → HeaderList → List ℕ → FieldValue → HeaderList
+put_within i m n v = if nat_lt i 33 then append m n v else m
+
+unfoldable pub sent_at : Data → Option Body
+sent_at d = if starts (codes "Once") d then (tagged_at (codes "Once") d >>= blob_at >>= λ b. Some (bodies.Once b)) else (blob_at d >>= λ b. Some (bodies.Bytes b))
+
+-- bytes, bytes that can be sent once, or null for a body that is gone
+unfoldable pub body_at : Data → Option Body
+body_at null = Some bodies.Taken
+body_at d = sent_at d
 
 unfoldable pub request_at : Data → Option HttpRequest
-request_at d = quadruple_at d >>= λ p. text_at p.0 >>= λ m. text_at p.1 >>= λ u. empty_at p.2 >>= λ _. text_at p.3 >>= λ b.
-    Some (record { method = m; uri = u; headers = []; body = bodies.Bytes b })
+request_at d = quadruple_at d >>= λ p. as_str p.0 >>= λ m. as_str p.1 >>= λ u. headers_at p.2 >>= λ h. body_at p.3 >>= λ b.
+    Some (record { method = m; uri = u; headers = h; body = b })
 
 unfoldable pub response_at : Data → Option HttpResponse
-response_at d = triple_at d >>= λ p. number_below (2 ^ 16) p.0 >>= λ s. empty_at p.1 >>= λ _. text_at p.2 >>= λ b.
-    Some (record { status = s; headers = []; body = bodies.Bytes b })
+response_at d = triple_at d >>= λ p. number_below (2 ^ 16) p.0 >>= λ s. headers_at p.1 >>= λ h. body_at p.2 >>= λ b.
+    Some (record { status = s; headers = h; body = b })
+
+-- ---- identities and endpoints
 
 unfoldable pub identity_at : Data → Option Identity
-identity_at d = pair_at d >>= λ p. text_at p.0 >>= λ c. optional_number_at p.1 >>= λ e. Some (record { content = c; expiration = e })
+identity_at d = pair_at d >>= λ p. blob_at p.0 >>= λ c. optional_at number_at p.1 >>= λ e. Some (record { content = c; expiration = e })
+
+unfoldable pub endpoint_header_at : Data → Option EndpointHeader
+endpoint_header_at d = pair_at d >>= λ p. as_str p.0 >>= λ n. texts_at p.1 >>= λ vs. Some (record { name = n; values = vs })
 
 unfoldable pub endpoint_at : Data → Option Endpoint
-endpoint_at d = triple_at d >>= λ p. text_at p.0 >>= λ u. empty_at p.1 >>= λ _. null_at p.2 >>= λ _.
-    Some (record { url = u; headers = []; schemes = None })
+endpoint_at d = triple_at d >>= λ p. as_str p.0 >>= λ u. as_array p.1 >>= list_of endpoint_header_at >>= λ hs. optional_at texts_at p.2 >>= λ s.
+    Some (record { url = u; headers = hs; schemes = s })
+
+-- ---- failures and outcomes
+
+unfoldable pub error_kind_at : Data → Option ErrorKind
+error_kind_at d = as_str d >>= named error_kind_text error_kinds
+
+unfoldable pub connector_at : Data → Option ConnectorKind
+connector_at d = if says (codes "Timeout") d then Some connectors.Timeout
+    else (if says (codes "User") d then Some connectors.User
+    else (if says (codes "Io") d then Some connectors.Io
+    else (tagged_at (codes "Other") d >>= optional_at error_kind_at >>= λ k. Some (connectors.Other k))))
+
+abbrev pub failed_by : FaultKind → List ℕ → Fault
+failed_by k t = record { kind = k; text = t }
+
+unfoldable pub operation_fault_at : Data → Option Fault
+operation_fault_at d = triple_at d >>= λ p. word_at (codes "Operation") p.0 >>= λ _. payload_at p.1 >>= λ e. as_str p.2 >>= λ t. Some (failed_by (faults.Operation e) t)
+
+unfoldable pub connector_fault_at : Data → Option Fault
+connector_fault_at d = triple_at d >>= λ p. word_at (codes "Connector") p.0 >>= λ _. connector_at p.1 >>= λ k. as_str p.2 >>= λ t. Some (failed_by (faults.Connector k) t)
+
+-- those without a part of their own
+unfoldable pub plain_fault_at : Data → Option Fault
+plain_fault_at d = if starts (codes "Timeout") d then (tagged_at (codes "Timeout") d >>= as_str >>= λ t. Some (failed_by faults.Timeout t))
+    else (if starts (codes "Response") d then (tagged_at (codes "Response") d >>= as_str >>= λ t. Some (failed_by faults.Response t))
+    else (tagged_at (codes "Other") d >>= as_str >>= λ t. Some (failed_by faults.Other t)))
+
+-- a hook's failure can't be written
+unfoldable pub fault_at : Data → Option Fault
+fault_at d = if starts (codes "Operation") d then operation_fault_at d
+    else (if starts (codes "Connector") d then connector_fault_at d else plain_fault_at d)
 
 unfoldable pub outcome_at : Data → Option Outcome
-outcome_at d = tagged_at (codes "Output") d >>= λ o. payload_at o >>= λ p. Some (outcomes.Output p)
+outcome_at d = if starts (codes "Output") d then (tagged_at (codes "Output") d >>= payload_at >>= λ p. Some (outcomes.Output p))
+    else (tagged_at (codes "Failed") d >>= fault_at >>= λ f. Some (outcomes.Failed f))
 
--- ---- settings
-
-unfoldable pub timeouts_at : Data → Option TimeoutConfig
-timeouts_at d = quadruple_at d >>= λ p. optional_number_at p.0 >>= λ c. optional_number_at p.1 >>= λ r. null_at p.2 >>= λ _. null_at p.3 >>= λ _.
-    Some (record { connect = c; read = r; operation = None; attempt = None })
-
-abbrev pub timeouts_layer : TimeoutConfig → List LayerEntry
-timeouts_layer t = entry (key_of (settings.Timeouts t)) (Some (settings.Timeouts t)) ∷ []
-
-unfoldable pub deadlines_at : Data → Option (List LayerEntry)
-deadlines_at d = tagged_at (codes "timeouts") d >>= λ v. timeouts_at v >>= λ t. Some (timeouts_layer t)
-
-abbrev pub only_item : Items → Option Data
-only_item (item d no_items) = Some d
-only_item _ = None
-
--- no setting, or the deadlines alone
-abbrev pub layer_of_items : Items → Option (List LayerEntry)
-layer_of_items no_items = Some []
-layer_of_items ds = only_item ds >>= deadlines_at
-
-unfoldable pub layer_at : Data → Option (List LayerEntry)
-layer_at d = as_array d >>= layer_of_items
-
--- ---- answers
-
-abbrev pub six_of : Items → Option (Data × Data × Data × Data × Data × Data)
-six_of (item a (item b (item c (item d (item e (item f no_items)))))) = Some (a, b, c, d, e, f)
-six_of _ = None
-
-unfoldable pub chosen_at : Data → Option Chosen
-chosen_at d = as_array d >>= λ ds. six_of ds >>= λ p. word_at (codes "Chosen") p.0 >>= λ _. text_at p.1 >>= λ s. identity_at p.2 >>= λ i.
-    null_at p.3 >>= λ _. empty_at p.4 >>= λ _. null_at p.5 >>= λ _. Some (record { scheme = s; identity = i; endpoint = None; settings = []; note = None })
-
-abbrev pub request_answer_at : Data → Option Answer
-request_answer_at d = tagged_at (codes "Request") d >>= λ v. request_at v >>= λ r. Some (answers.Request r)
-
--- the answer to a question of this kind
-unfoldable pub answer_at : Kind → Data → Option Answer
-answer_at (kinds.Configure stage) d = tagged_at (codes "Layer") d >>= λ v. layer_at v >>= λ l. Some (answers.Layer l)
-answer_at kinds.Serialize d = request_answer_at d
-answer_at kinds.Initial d = word_at (codes "Go") d >>= λ _. Some answers.Go
-answer_at kinds.Choose d = chosen_at d >>= λ c. Some (answers.Chosen c)
-answer_at kinds.Endpoint d = tagged_at (codes "Endpoint") d >>= λ v. endpoint_at v >>= λ e. Some (answers.Endpoint e)
-answer_at kinds.Apply d = request_answer_at d
-answer_at kinds.Sign d = request_answer_at d
-answer_at kinds.Transmit d = tagged_at (codes "Response") d >>= λ v. response_at v >>= λ r. Some (answers.Response r)
-answer_at kinds.Stream d = word_at (codes "NotStreaming") d >>= λ _. Some answers.NotStreaming
-answer_at kinds.Body d = tagged_at (codes "Read") d >>= λ v. text_at v >>= λ b. Some (answers.Read b)
-answer_at kinds.Deserialize d = tagged_at (codes "Outcome") d >>= λ v. outcome_at v >>= λ o. Some (answers.Outcome o)
-answer_at kinds.Decide d = word_at (codes "No") d >>= λ _. Some (answers.Decided choices.No None)
-answer_at kind d = None
+unfoldable pub change_at : Data → Option Change
+change_at d = if starts (codes "Input") d then (tagged_at (codes "Input") d >>= payload_at >>= λ p. Some (changes.Input p))
+    else (if starts (codes "Request") d then (tagged_at (codes "Request") d >>= request_at >>= λ r. Some (changes.Request r))
+    else (if starts (codes "Response") d then (tagged_at (codes "Response") d >>= response_at >>= λ r. Some (changes.Response r))
+    else (tagged_at (codes "Outcome") d >>= outcome_at >>= λ o. Some (changes.Outcome o))))

@@ -13,3 +13,15 @@ three_of _ = None
 abbrev pub four_of : Items → Option (Data × Data × Data × Data)
 four_of (item a (item b (item c (item d no_items)))) = Some (a, b, c, d)
 four_of _ = None
+
+abbrev pub five_of : Items → Option (Data × Data × Data × Data × Data)
+five_of (item a (item b (item c (item d (item e no_items))))) = Some (a, b, c, d, e)
+five_of _ = None
+
+abbrev pub six_of : Items → Option (Data × Data × Data × Data × Data × Data)
+six_of (item a (item b (item c (item d (item e (item f no_items)))))) = Some (a, b, c, d, e, f)
+six_of _ = None
+
+abbrev pub seven_of : Items → Option (Data × Data × Data × Data × Data × Data × Data)
+seven_of (item a (item b (item c (item d (item e (item f (item g no_items))))))) = Some (a, b, c, d, e, f, g)
+seven_of _ = None

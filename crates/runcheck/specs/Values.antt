@@ -207,8 +207,12 @@ abbrev pub no_layer : List LayerEntry → Bool
 no_layer [] = true
 no_layer (e ∷ es) = false
 
+-- no change, no setting and no failure
+abbrev pub does_nothing : HookAnswer → Bool
+does_nothing a = is_none a.change && no_layer a.settings && is_none a.failure
+
 unfoldable pub hook_answer_data : HookAnswer → Data
-hook_answer_data a = if is_none a.change && no_layer a.settings && is_none a.failure then string (codes "Done")
+hook_answer_data a = if does_nothing a then string (codes "Done")
     else row (string (codes "Hook") ∷ null_or change_data a.change ∷ layer_data a.settings ∷ null_or string a.failure ∷ [])
 
 unfoldable pub choose_note_data : ChooseNote → Data

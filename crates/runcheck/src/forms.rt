@@ -1,15 +1,19 @@
 //! Bytes, numbers and texts, as they are read and printed.
 ghost use Rattle.std.specs.Prelude.{◌≡◌, IfOk, Bool, true, false, map};
 ghost use Rattle.std.specs.List.{list_all};
-ghost use Rattle.serde_json.specs.Data.{string, array};
-ghost use Rattle.serde_json.specs.View.{view, items_view};
+ghost use Rattle.serde_json.specs.Data.{string};
+ghost use Rattle.serde_json.specs.Find.{as_str};
+ghost use Rattle.serde_json.specs.View.{view, items_view, members_view};
 ghost use Rattle.runcheck.specs.JsonData.{data_of};
 ghost use Rattle.runcheck.specs.Reading.{Reads, Gives};
-ghost use Rattle.runcheck.specs.Readings.{is_plain, text_at, word_at, tagged_at, null_at, empty_at, optional_number_at};
+ghost use Rattle.runcheck.specs.Forms.{says, first_says, starts, word_at, tagged_at, optional_at, true_at, texts_at, is_lower_digit, hex_bytes, one_member, only_at, hex_at, blob_at};
+ghost use Rattle.runcheck.specs.Lists.{list_of};
+ghost use Rattle.runcheck.specs.Plain.{number_at};
 ghost use Rattle.runcheck.specs.Values.{num, null_or, texts, is_shown, blob_data};
 
 use crate::{Json, ReadError, Row, read};
-use serde_json::Value;
+use hex::FromHexError;
+use serde_json::{Map, Value};
 use smithy_base::{Blob, List, OutOfMemory, Text};
 use std::alloc::Global;
 
@@ -101,51 +105,40 @@ fn print_shown(alloc: Global, bytes: &[u8]) -> Result<Json, OutOfMemory>
     }
 }
 
-// Whether the byte is visible ASCII or a space.
-#[tactic(auto, unfolding(crate::specs::Readings::is_plain))]
-fn is_plain(byte: u8) -> bool
-    ensures { result ≡ is_plain byte }
+/// Whether the text is this word.
+#[tactic(auto, unfolding(crate::specs::Forms::says))]
+pub fn says(word: &str, value: &Value) -> bool
+    ensures { result ≡ says word.now (view value.now) }
 {
-    32 <= byte && byte <= 126
-}
-
-fn all_plain(bytes: &[u8]) -> bool
-    ensures { result ≡ list_all is_plain bytes.now }
-{
-    bytes.iter().all(|byte| is_plain(*byte))
-}
-
-/// A text of visible ASCII and spaces.
-#[tactic(auto, unfolding(crate::specs::Readings::text_at))]
-pub fn plain_text(value: &Value) -> Result<&str, ReadError>
-    ensures { Gives (λ s. s.now) result (text_at (view value.now)) }
-{
-    let text = read::str(value)?;
-    if all_plain(text.as_bytes()) {
-        Ok(text)
-    } else {
-        Err(ReadError::Refused)
+    match value {
+        Value::String(text) => text.as_str() == word,
+        _ => false,
     }
 }
 
-/// A text.
-pub fn read_text(alloc: Global, value: &Value) -> Result<Text, ReadError>
-    ensures { Reads result (text_at (view value.now)) }
+/// Whether the array begins with this word.
+#[tactic(auto, unfolding(crate::specs::Forms::starts))]
+pub fn starts(word: &str, value: &Value) -> bool
+    ensures { result ≡ starts word.now (view value.now) }
 {
-    let text = plain_text(value)?;
-    Ok(Text::from_str(alloc, text)?)
+    match value {
+        Value::Array(items) => first_says(word, items.as_slice()),
+        _ => false,
+    }
 }
 
-/// Bytes that stand as a text.
-pub fn read_blob(alloc: Global, value: &Value) -> Result<Blob, ReadError>
-    ensures { Reads result (text_at (view value.now)) }
+#[tactic(auto, unfolding(crate::specs::Forms::first_says))]
+fn first_says(word: &str, items: &[Value]) -> bool
+    ensures { result ≡ first_says word.now (items_view items.now) }
 {
-    let text = plain_text(value)?;
-    Ok(Blob::from_slice(alloc, text.as_bytes())?)
+    match items {
+        [first, ..] => says(word, first),
+        [] => false,
+    }
 }
 
 /// The text that is this word.
-#[tactic(auto, unfolding(crate::specs::Readings::word_at))]
+#[tactic(auto, unfolding(crate::specs::Forms::word_at))]
 pub fn read_word(word: &str, value: &Value) -> Result<(), ReadError>
     ensures { Reads result (word_at word.now (view value.now)) }
 {
@@ -158,7 +151,7 @@ pub fn read_word(word: &str, value: &Value) -> Result<(), ReadError>
 }
 
 /// What stands beside the tag in an array of two.
-#[tactic(auto, unfolding(crate::specs::Readings::tagged_at))]
+#[tactic(auto, unfolding(crate::specs::Forms::tagged_at))]
 pub fn read_tagged<'v>(tag: &str, value: &'v Value) -> Result<&'v Value, ReadError>
     ensures { Gives (λ v. view v.now) result (tagged_at tag.now (view value.now)) }
 {
@@ -167,45 +160,139 @@ pub fn read_tagged<'v>(tag: &str, value: &'v Value) -> Result<&'v Value, ReadErr
     Ok(inner)
 }
 
-/// Null.
-#[tactic(auto, unfolding(crate::specs::Readings::null_at))]
-pub fn read_null(value: &Value) -> Result<(), ReadError>
-    ensures { Reads result (null_at (view value.now)) }
+/// A mark's value, which is true.
+#[tactic(auto, unfolding(crate::specs::Forms::true_at))]
+pub fn read_true(value: &Value) -> Result<(), ReadError>
+    ensures { Reads result (true_at (view value.now)) }
 {
-    match value {
-        Value::Null => Ok(()),
-        _ => Err(ReadError::Refused),
-    }
-}
-
-/// An array without items.
-#[tactic(auto, unfolding(crate::specs::Readings::empty_at))]
-pub fn read_empty(value: &Value) -> Result<(), ReadError>
-    ensures { Reads result (empty_at (view value.now)) }
-{
-    match value {
-        Value::Array(items) => no_items(items.as_slice()),
-        _ => Err(ReadError::Refused),
-    }
-}
-
-#[tactic(auto, using(crate::proofs::OtherLength::not_none), unfolding(crate::specs::Readings::empty_at))]
-fn no_items(items: &[Value]) -> Result<(), ReadError>
-    ensures { Reads result (empty_at (array (items_view items.now))) }
-{
-    match items {
-        [] => Ok(()),
-        [_, ..] => Err(ReadError::Refused),
+    if read::boolean(value)? {
+        Ok(())
+    } else {
+        Err(ReadError::Refused)
     }
 }
 
 /// A number, or null.
-#[tactic(auto, unfolding(crate::specs::Readings::optional_number_at))]
+#[tactic(auto, unfolding(crate::specs::Forms::optional_at))]
 pub fn read_optional_number(value: &Value) -> Result<Option<u64>, ReadError>
-    ensures { Reads result (optional_number_at (view value.now)) }
+    ensures { Reads result (optional_at number_at (view value.now)) }
 {
     match value {
         Value::Null => Ok(None),
         _ => Ok(Some(read::number(value)?)),
+    }
+}
+
+/// A text, or null.
+#[tactic(auto, unfolding(crate::specs::Forms::optional_at))]
+pub fn read_optional_text(alloc: Global, value: &Value) -> Result<Option<Text>, ReadError>
+    ensures { Reads result (optional_at as_str (view value.now)) }
+{
+    match value {
+        Value::Null => Ok(None),
+        _ => Ok(Some(read::text(alloc, value)?)),
+    }
+}
+
+/// A list of texts.
+#[tactic(auto, unfolding(crate::specs::Forms::texts_at))]
+pub fn read_texts(alloc: Global, value: &Value) -> Result<List<Text>, ReadError>
+    ensures { Reads result (texts_at (view value.now)) }
+{
+    text_items(alloc, read::items(value)?)
+}
+
+#[tactic(auto, using(crate::proofs::ReadLists::list_reading))]
+fn text_items(alloc: Global, items: &[Value]) -> Result<List<Text>, ReadError>
+    ensures { Reads result (list_of as_str (items_view items.now)) }
+{
+    let mut list = List::new();
+    for value in items {
+        match read::text(alloc, value) {
+            Ok(text) => list.push(alloc, text)?,
+            Err(error) => return Err(error),
+        }
+    }
+    Ok(list)
+}
+
+/// A list of texts, or null.
+#[tactic(auto, unfolding(crate::specs::Forms::optional_at))]
+pub fn read_optional_texts(alloc: Global, value: &Value) -> Result<Option<List<Text>>, ReadError>
+    ensures { Reads result (optional_at texts_at (view value.now)) }
+{
+    match value {
+        Value::Null => Ok(None),
+        _ => Ok(Some(read_texts(alloc, value)?)),
+    }
+}
+
+// A digit of hex, its letters in lower case.
+#[tactic(auto, unfolding(crate::specs::Forms::is_lower_digit))]
+fn is_lower_digit(byte: u8) -> bool
+    ensures { result ≡ is_lower_digit byte }
+{
+    (48 <= byte && byte <= 57) || (97 <= byte && byte <= 102)
+}
+
+fn all_lower_digits(bytes: &[u8]) -> bool
+    ensures { result ≡ list_all is_lower_digit bytes.now }
+{
+    bytes.iter().all(|byte| is_lower_digit(*byte))
+}
+
+// The bytes that stand in hex.
+#[tactic(auto, unfolding(crate::specs::Forms::hex_bytes))]
+fn hex_bytes(alloc: Global, text: &str) -> Result<Vec<u8>, ReadError>
+    ensures { Gives (λ v. v.items) result (hex_bytes text.now) }
+{
+    if !all_lower_digits(text.as_bytes()) {
+        return Err(ReadError::Refused);
+    }
+    match hex::decode(alloc, text) {
+        Ok(bytes) => Ok(bytes),
+        Err(FromHexError::OutOfMemory) => Err(ReadError::Memory),
+        Err(_) => Err(ReadError::Refused),
+    }
+}
+
+/// A blob: a text, or an object with the bytes in hex.
+#[tactic(auto, unfolding(crate::specs::Forms::blob_at))]
+pub fn read_blob(alloc: Global, value: &Value) -> Result<Blob, ReadError>
+    ensures { Reads result (blob_at (view value.now)) }
+{
+    match value {
+        Value::String(text) => Ok(Blob::from_slice(alloc, text.as_str().as_bytes())?),
+        _ => read_hex(alloc, value),
+    }
+}
+
+#[tactic(auto, unfolding(crate::specs::Forms::hex_at))]
+fn read_hex(alloc: Global, value: &Value) -> Result<Blob, ReadError>
+    ensures { Reads result (hex_at (view value.now)) }
+{
+    only_member(value)?;
+    let text = read::str(read::member(value, "hex")?)?;
+    Ok(Blob::from_vec(hex_bytes(alloc, text)?)?)
+}
+
+#[tactic(auto, unfolding(crate::specs::Forms::only_at))]
+fn only_member(value: &Value) -> Result<(), ReadError>
+    ensures { Reads result (only_at (view value.now)) }
+{
+    match value.as_object() {
+        Some(members) => one_member(members),
+        None => Err(ReadError::Refused),
+    }
+}
+
+#[tactic(auto, using(crate::proofs::Members::counted))]
+fn one_member(members: &Map<String, Value>) -> Result<(), ReadError>
+    ensures { Reads result (one_member (members_view members.now.entries)) }
+{
+    if members.len() == 1 {
+        Ok(())
+    } else {
+        Err(ReadError::Refused)
     }
 }

@@ -1,23 +1,31 @@
 //! Payloads, requests, responses, identities and endpoints.
-ghost use Rattle.std.specs.Prelude.{◌≡◌, IfOk};
+ghost use Rattle.std.specs.Prelude.{◌≡◌, IfOk, IfErr, OnOk};
+ghost use Rattle.std.specs.List.{list_all};
+ghost use Rattle.http_header.specs.Token.{is_token_byte, is_value_byte};
+ghost use Rattle.runcheck.specs.Forms.{optional_at, texts_at};
 ghost use Rattle.runcheck.specs.JsonData.{data_of};
+ghost use Rattle.runcheck.specs.Lists.{list_of};
 ghost use Rattle.runcheck.specs.Reading.{Reads};
-ghost use Rattle.runcheck.specs.Readings.{payload_at, request_at, response_at, identity_at, endpoint_at};
-ghost use Rattle.serde_json.specs.View.{view};
+ghost use Rattle.runcheck.specs.Readings.{payload_at, is_field_name, field_name, field_value, header_at, header_items, headers_at, put_within, sent_at, body_at, request_at, response_at, identity_at, endpoint_header_at, endpoint_at};
+ghost use Rattle.runcheck.specs.declared.read.ReadError.TheVariants.{Memory};
+ghost use Rattle.serde_json.specs.View.{view, items_view};
 ghost use Rattle.runcheck.specs.Values.{null_or, payload_data, headers_data, body_data, request_data, response_data, identity_data, endpoint_header_data, endpoint_data};
 
 use crate::forms::{
     print_blob, print_bytes, print_optional_number, print_optional_texts, print_texts, read_blob,
-    read_empty, read_null, read_optional_number, read_text,
+    read_optional_number, read_optional_texts, read_tagged, read_texts, starts,
 };
 use crate::{Json, ReadError, Row, read};
-use http_header::HeaderMap;
+use http_header::{HeaderMap, HeaderName, HeaderValue, is_token_char};
 use serde_json::Value;
 use smithy_base::{
     Body, Endpoint, EndpointHeader, Headers, HttpRequest, HttpResponse, Identity, List,
     OutOfMemory, Payload, Shared,
 };
 use std::alloc::Global;
+
+/// How many headers of a head are kept: one more than a head may have.
+const KEPT_HEADERS: usize = 33;
 
 /// A payload: its kind and its bytes.
 #[tactic(auto, unfolding(crate::specs::Values::payload_data))]
@@ -146,20 +154,153 @@ pub fn read_payload(alloc: Global, value: &Value) -> Result<Payload, ReadError>
     Ok(Payload { kind, bytes })
 }
 
+// Whether the bytes may name a header.
+#[tactic(auto, unfolding(crate::specs::Readings::is_field_name))]
+fn is_field_name(bytes: &[u8]) -> bool
+    ensures { result ≡ is_field_name bytes.now }
+{
+    !bytes.is_empty() && bytes.len() <= 65535 && all_token_bytes(bytes)
+}
+
+fn all_token_bytes(bytes: &[u8]) -> bool
+    ensures { result ≡ list_all is_token_byte bytes.now }
+{
+    bytes.iter().all(|byte| is_token_char(*byte))
+}
+
+// Whether the byte may stand in a header's value.
+fn is_value_byte(byte: u8) -> bool
+    ensures { result ≡ is_value_byte byte }
+{
+    byte == 9 || (32 <= byte && byte != 127)
+}
+
+fn all_value_bytes(bytes: &[u8]) -> bool
+    ensures { result ≡ list_all is_value_byte bytes.now }
+{
+    bytes.iter().all(|byte| is_value_byte(*byte))
+}
+
+// A header's name. One that may be a name fails for want of memory alone.
+#[tactic(auto, unfolding(crate::specs::Readings::field_name))]
+fn header_name(alloc: Global, text: &str) -> Result<HeaderName, ReadError>
+    ensures { Reads result (field_name text.now) }
+{
+    if !is_field_name(text.as_bytes()) {
+        return Err(ReadError::Refused);
+    }
+    match HeaderName::from_bytes(alloc, text.as_bytes()) {
+        Ok(name) => Ok(name),
+        Err(_) => Err(ReadError::Memory),
+    }
+}
+
+// A header's value. One that may be a value fails for want of memory alone.
+#[tactic(auto, unfolding(crate::specs::Readings::field_value))]
+fn header_value(alloc: Global, bytes: &[u8]) -> Result<HeaderValue, ReadError>
+    ensures { Reads result (field_value bytes.now) }
+{
+    if !all_value_bytes(bytes) {
+        return Err(ReadError::Refused);
+    }
+    match HeaderValue::from_bytes(alloc, bytes) {
+        Ok(value) => Ok(value),
+        Err(_) => Err(ReadError::Memory),
+    }
+}
+
+// A header's name and value.
+#[tactic(auto, unfolding(crate::specs::Readings::header_at))]
+fn read_header(alloc: Global, value: &Value) -> Result<(HeaderName, HeaderValue), ReadError>
+    ensures { Reads result (header_at (view value.now)) }
+{
+    let (name, value) = read::pair(value)?;
+    let name = header_name(alloc, read::str(name)?)?;
+    let bytes = read_blob(alloc, value)?;
+    let value = header_value(alloc, bytes.as_slice())?;
+    Ok((name, value))
+}
+
+/// The headers of a head. All are read; one more is kept than a head may have.
+#[tactic(auto, unfolding(crate::specs::Readings::headers_at))]
+pub fn read_headers(alloc: Global, value: &Value) -> Result<Headers, ReadError>
+    ensures { Reads result (headers_at (view value.now)) }
+{
+    let items = read::items(value)?;
+    let map = header_items(alloc, items)?;
+    Ok(Headers::from_map(alloc, map)?)
+}
+
+#[tactic(auto, using(crate::proofs::HeaderReading::header_reading))]
+fn header_items(alloc: Global, items: &[Value]) -> Result<HeaderMap, ReadError>
+    ensures { Reads result (header_items (items_view items.now)) }
+{
+    let mut map = HeaderMap::new(alloc);
+    for index in 0..items.len() {
+        match read_header(alloc, &items[index]) {
+            Ok((name, value)) => put_within(index, &mut map, name, value)?,
+            Err(error) => return Err(error),
+        }
+    }
+    Ok(map)
+}
+
+// Puts a header behind those of its name. Those that are kept fail for want of memory alone.
+fn put_within(
+    index: usize,
+    map: &mut HeaderMap,
+    name: HeaderName,
+    value: HeaderValue,
+) -> Result<(), ReadError>
+    ensures ok { OnOk result (map.new ≡ put_within index map.old name value) }
+    ensures err { IfErr result (λ e. e ≡ Memory) }
+{
+    if index >= KEPT_HEADERS {
+        return Ok(());
+    }
+    match map.append(name, value) {
+        Ok(_) => Ok(()),
+        Err(_) => Err(ReadError::Memory),
+    }
+}
+
+// A body that is there.
+#[tactic(auto, unfolding(crate::specs::Readings::sent_at))]
+fn read_sent(alloc: Global, value: &Value) -> Result<Body, ReadError>
+    ensures { Reads result (sent_at (view value.now)) }
+{
+    if starts("Once", value) {
+        let bytes = read_tagged("Once", value)?;
+        return Ok(Body::Once(read_blob(alloc, bytes)?));
+    }
+    Ok(Body::Bytes(read_blob(alloc, value)?))
+}
+
+/// A body.
+#[tactic(auto, unfolding(crate::specs::Readings::body_at))]
+pub fn read_body(alloc: Global, value: &Value) -> Result<Body, ReadError>
+    ensures { Reads result (body_at (view value.now)) }
+{
+    match value {
+        Value::Null => Ok(Body::Taken),
+        _ => read_sent(alloc, value),
+    }
+}
+
 /// A request.
 #[tactic(auto, unfolding(crate::specs::Readings::request_at))]
 pub fn read_request(alloc: Global, value: &Value) -> Result<HttpRequest, ReadError>
     ensures { Reads result (request_at (view value.now)) }
 {
     let (method, uri, headers, body) = read::quadruple(value)?;
-    let method = read_text(alloc, method)?;
-    let uri = read_text(alloc, uri)?;
-    read_empty(headers)?;
-    let body = Body::Bytes(read_blob(alloc, body)?);
+    let method = read::text(alloc, method)?;
+    let uri = read::text(alloc, uri)?;
+    let headers = read_headers(alloc, headers)?;
+    let body = read_body(alloc, body)?;
     Ok(HttpRequest {
         method,
         uri,
-        headers: Headers::new(),
+        headers,
         body,
     })
 }
@@ -171,11 +312,11 @@ pub fn read_response(alloc: Global, value: &Value) -> Result<HttpResponse, ReadE
 {
     let (status, headers, body) = read::triple(value)?;
     let status = read::number_16(status)?;
-    read_empty(headers)?;
-    let body = Body::Bytes(read_blob(alloc, body)?);
+    let headers = read_headers(alloc, headers)?;
+    let body = read_body(alloc, body)?;
     Ok(HttpResponse {
         status,
-        headers: Headers::new(),
+        headers,
         body,
     })
 }
@@ -194,18 +335,60 @@ pub fn read_identity(alloc: Global, value: &Value) -> Result<Identity, ReadError
     })
 }
 
+// A header of an endpoint.
+#[tactic(auto, unfolding(crate::specs::Readings::endpoint_header_at))]
+fn read_endpoint_header(alloc: Global, value: &Value) -> Result<EndpointHeader, ReadError>
+    ensures { Reads result (endpoint_header_at (view value.now)) }
+{
+    let (name, values) = read::pair(value)?;
+    let name = read::text(alloc, name)?;
+    let values = read_texts(alloc, values)?;
+    Ok(EndpointHeader { name, values })
+}
+
+#[tactic(auto, using(crate::proofs::ReadLists::list_reading))]
+fn endpoint_headers(alloc: Global, items: &[Value]) -> Result<List<EndpointHeader>, ReadError>
+    ensures { Reads result (list_of endpoint_header_at (items_view items.now)) }
+{
+    let mut list = List::new();
+    for value in items {
+        match read_endpoint_header(alloc, value) {
+            Ok(header) => list.push(alloc, header)?,
+            Err(error) => return Err(error),
+        }
+    }
+    Ok(list)
+}
+
 /// An endpoint.
 #[tactic(auto, unfolding(crate::specs::Readings::endpoint_at))]
 pub fn read_endpoint(alloc: Global, value: &Value) -> Result<Endpoint, ReadError>
     ensures { Reads result (endpoint_at (view value.now)) }
 {
     let (url, headers, schemes) = read::triple(value)?;
-    let url = read_text(alloc, url)?;
-    read_empty(headers)?;
-    read_null(schemes)?;
+    let url = read::text(alloc, url)?;
+    let headers = endpoint_headers(alloc, read::items(headers)?)?;
+    let schemes = read_optional_texts(alloc, schemes)?;
     Ok(Endpoint {
         url,
-        headers: List::new(),
-        schemes: None,
+        headers,
+        schemes,
     })
+}
+
+/// An endpoint behind a shared handle, or null.
+#[tactic(auto, unfolding(crate::specs::Forms::optional_at))]
+pub fn read_optional_endpoint(
+    alloc: Global,
+    value: &Value,
+) -> Result<Option<Shared<Endpoint>>, ReadError>
+    ensures { Reads result (optional_at endpoint_at (view value.now)) }
+{
+    match value {
+        Value::Null => Ok(None),
+        _ => {
+            let endpoint = read_endpoint(alloc, value)?;
+            Ok(Some(Shared::new(alloc, endpoint)?))
+        }
+    }
 }

@@ -6,6 +6,8 @@ pub mod fault;
 pub mod forms;
 pub mod http;
 pub mod json;
+pub mod limits;
+pub mod lists;
 pub mod names;
 pub mod note;
 pub mod read;

@@ -1,6 +1,8 @@
 //! The names that stand in scripts and prints.
-ghost use Rattle.std.specs.Prelude.{◌≡◌};
-ghost use Rattle.runcheck.specs.Names.{hook_text, role_text, stage_text, abandoned_text, kind_front, kind_name, error_kind_text, stop_text, mode_text, reconnect_text};
+ghost use Rattle.std.specs.Prelude.{◌≡◌, ◌++◌, nat_eq, option_copied};
+ghost use Rattle.std.specs.Cmp.Lexicographic.{pointwise};
+ghost use Rattle.runcheck.specs.Forms.{named};
+ghost use Rattle.runcheck.specs.Names.{hook_text, role_text, stage_text, abandoned_text, kind_front, kind_name, kind_text, error_kind_text, stop_text, mode_text, reconnect_text, error_kinds, stop_points, retry_modes, reconnect_modes, all_kinds};
 
 use run_grammar::{Abandonable, ConfigureStage, Kind, Role};
 use smithy_base::{ErrorKind, Hook, ReconnectMode, RetryMode, StopPoint};
@@ -148,5 +150,158 @@ pub fn reconnect_name(mode: ReconnectMode) -> &'static str
     match mode {
         ReconnectMode::ReconnectOnTransientError => "ReconnectOnTransientError",
         ReconnectMode::ReuseAllConnections => "ReuseAllConnections",
+    }
+}
+
+/// Each kind of question.
+const ALL_KINDS: [Kind; 54] = [
+    Kind::Configure(ConfigureStage::Client),
+    Kind::Configure(ConfigureStage::Operation),
+    Kind::Configure(ConfigureStage::Final),
+    Kind::Hook(Hook::ReadBeforeExecutionClient),
+    Kind::Hook(Hook::ReadBeforeExecutionOperation),
+    Kind::Hook(Hook::ModifyBeforeSerialization),
+    Kind::Hook(Hook::ReadBeforeSerialization),
+    Kind::Hook(Hook::ReadAfterSerialization),
+    Kind::Hook(Hook::ModifyBeforeRetryLoop),
+    Kind::Hook(Hook::ReadBeforeAttempt),
+    Kind::Hook(Hook::ModifyBeforeSigning),
+    Kind::Hook(Hook::ReadBeforeSigning),
+    Kind::Hook(Hook::ReadAfterSigning),
+    Kind::Hook(Hook::ModifyBeforeTransmit),
+    Kind::Hook(Hook::ReadBeforeTransmit),
+    Kind::Hook(Hook::ReadAfterTransmit),
+    Kind::Hook(Hook::ModifyBeforeDeserialization),
+    Kind::Hook(Hook::ReadBeforeDeserialization),
+    Kind::Hook(Hook::ReadAfterDeserialization),
+    Kind::Hook(Hook::ModifyBeforeAttemptCompletion),
+    Kind::Hook(Hook::ReadAfterAttempt),
+    Kind::Hook(Hook::ModifyBeforeCompletion),
+    Kind::Hook(Hook::ReadAfterExecution),
+    Kind::Serialize,
+    Kind::Load,
+    Kind::Initial,
+    Kind::Choose,
+    Kind::Endpoint,
+    Kind::Apply,
+    Kind::Sign,
+    Kind::Transmit,
+    Kind::Stream,
+    Kind::Body,
+    Kind::Deserialize,
+    Kind::Decide,
+    Kind::Park,
+    Kind::Start(Role::Operation),
+    Kind::Start(Role::Attempt),
+    Kind::Start(Role::Send),
+    Kind::Start(Role::Retry),
+    Kind::Start(Role::LongPoll),
+    Kind::Wait(Role::Operation),
+    Kind::Wait(Role::Attempt),
+    Kind::Wait(Role::Send),
+    Kind::Wait(Role::Retry),
+    Kind::Wait(Role::LongPoll),
+    Kind::Abandon(Abandonable::Load),
+    Kind::Abandon(Abandonable::Choose),
+    Kind::Abandon(Abandonable::Endpoint),
+    Kind::Abandon(Abandonable::Transmit),
+    Kind::Abandon(Abandonable::Body),
+    Kind::Abandon(Abandonable::WaitSend),
+    Kind::Abandon(Abandonable::WaitRetry),
+    Kind::Abandon(Abandonable::WaitLongPoll),
+];
+
+const ERROR_KINDS: [ErrorKind; 4] = [
+    ErrorKind::TransientError,
+    ErrorKind::ThrottlingError,
+    ErrorKind::ServerError,
+    ErrorKind::ClientError,
+];
+
+/// The kind of question that is printed so.
+pub fn kind_named(text: &str) -> Option<Kind>
+    ensures { result ≡ named kind_text all_kinds text.now }
+{
+    first_named(&ALL_KINDS, text)
+}
+
+fn first_named(kinds: &[Kind], text: &str) -> Option<Kind>
+    ensures { result ≡ named kind_text kinds.now text.now }
+{
+    kinds.iter().copied().find(|kind| is_named(*kind, text))
+}
+
+fn is_named(kind: Kind, text: &str) -> bool
+    ensures { result ≡ pointwise nat_eq text.now (kind_text kind) }
+{
+    let front = front_of_kind(kind).as_bytes();
+    let name = name_of_kind(kind).as_bytes();
+    is_joined(text.as_bytes(), front, name)
+}
+
+// Whether the text is these two parts.
+#[tactic(auto, using(crate::proofs::Joined::joined))]
+fn is_joined(text: &[u8], front: &[u8], back: &[u8]) -> bool
+    ensures { result ≡ pointwise nat_eq text.now (front.now ++ back.now) }
+{
+    if text.len() < front.len() {
+        return false;
+    }
+    let (head, tail) = text.split_at(front.len());
+    head == front && tail == back
+}
+
+/// The kind of error that is printed so.
+pub fn error_kind_named(text: &str) -> Option<ErrorKind>
+    ensures { result ≡ named error_kind_text error_kinds text.now }
+{
+    first_error_kind(&ERROR_KINDS, text)
+}
+
+fn first_error_kind(kinds: &[ErrorKind], text: &str) -> Option<ErrorKind>
+    ensures { result ≡ named error_kind_text kinds.now text.now }
+{
+    kinds
+        .iter()
+        .copied()
+        .find(|kind| text == error_kind_name(*kind))
+}
+
+/// The stop point that is printed so.
+pub fn stop_named(text: &str) -> Option<StopPoint>
+    ensures { result ≡ named stop_text stop_points text.now }
+{
+    if text == "None" {
+        Some(StopPoint::None)
+    } else if text == "BeforeTransmit" {
+        Some(StopPoint::BeforeTransmit)
+    } else {
+        None
+    }
+}
+
+/// The mode of retries that is printed so.
+pub fn mode_named(text: &str) -> Option<RetryMode>
+    ensures { result ≡ named mode_text retry_modes text.now }
+{
+    if text == "Standard" {
+        Some(RetryMode::Standard)
+    } else if text == "Adaptive" {
+        Some(RetryMode::Adaptive)
+    } else {
+        None
+    }
+}
+
+/// The mode of reconnection that is printed so.
+pub fn reconnect_named(text: &str) -> Option<ReconnectMode>
+    ensures { result ≡ named reconnect_text reconnect_modes text.now }
+{
+    if text == "ReconnectOnTransientError" {
+        Some(ReconnectMode::ReconnectOnTransientError)
+    } else if text == "ReuseAllConnections" {
+        Some(ReconnectMode::ReuseAllConnections)
+    } else {
+        None
     }
 }

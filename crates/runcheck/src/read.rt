@@ -1,13 +1,13 @@
 //! Reading of plain JSON: numbers, texts and arrays of a fixed length.
 ghost use Rattle.std.specs.Prelude.{◌≡◌, ◌^◌};
-ghost use Rattle.serde_json.specs.Find.{as_array, as_bool, as_str};
+ghost use Rattle.serde_json.specs.Find.{as_array, as_bool, as_str, get};
 ghost use Rattle.serde_json.specs.View.{view, items_view};
-ghost use Rattle.runcheck.specs.Plain.{number_at, number_below, pair_at, triple_at, quadruple_at};
+ghost use Rattle.runcheck.specs.Plain.{number_at, number_below, pair_at, triple_at, quadruple_at, quintuple_at, sextuple_at, septuple_at};
 ghost use Rattle.runcheck.specs.Reading.{Reads, Gives};
-ghost use Rattle.runcheck.specs.Tuples.{two_of, three_of, four_of};
+ghost use Rattle.runcheck.specs.Tuples.{two_of, three_of, four_of, five_of, six_of, seven_of};
 
 use serde_json::Value;
-use smithy_base::{Blob, OutOfMemory, Text};
+use smithy_base::{OutOfMemory, Text};
 use std::alloc::{AllocError, AllocFailed, Global};
 
 /// Why a value was not read.
@@ -176,4 +176,78 @@ pub fn four(items: &[Value]) -> Result<(&Value, &Value, &Value, &Value), ReadErr
         return Err(ReadError::Refused);
     }
     Ok((&items[0], &items[1], &items[2], &items[3]))
+}
+
+/// The items of an array of five.
+pub fn quintuple(value: &Value) -> Result<(&Value, &Value, &Value, &Value, &Value), ReadError>
+    ensures { Gives (λ p. (view p.0.now, view p.1.now, view p.2.now, view p.3.now, view p.4.now)) result (quintuple_at (view value.now)) }
+{
+    five(items(value)?)
+}
+
+/// Five items.
+#[tactic(auto, using(crate::proofs::OtherLength::not_five))]
+pub fn five(items: &[Value]) -> Result<(&Value, &Value, &Value, &Value, &Value), ReadError>
+    ensures { Gives (λ p. (view p.0.now, view p.1.now, view p.2.now, view p.3.now, view p.4.now)) result (five_of (items_view items.now)) }
+{
+    if items.len() != 5 {
+        return Err(ReadError::Refused);
+    }
+    Ok((&items[0], &items[1], &items[2], &items[3], &items[4]))
+}
+
+/// The items of an array of six.
+pub fn sextuple(
+    value: &Value,
+) -> Result<(&Value, &Value, &Value, &Value, &Value, &Value), ReadError>
+    ensures { Gives (λ p. (view p.0.now, view p.1.now, view p.2.now, view p.3.now, view p.4.now, view p.5.now)) result (sextuple_at (view value.now)) }
+{
+    six(items(value)?)
+}
+
+/// Six items.
+#[tactic(auto, using(crate::proofs::OtherLength::not_six))]
+pub fn six(items: &[Value]) -> Result<(&Value, &Value, &Value, &Value, &Value, &Value), ReadError>
+    ensures { Gives (λ p. (view p.0.now, view p.1.now, view p.2.now, view p.3.now, view p.4.now, view p.5.now)) result (six_of (items_view items.now)) }
+{
+    if items.len() != 6 {
+        return Err(ReadError::Refused);
+    }
+    Ok((
+        &items[0], &items[1], &items[2], &items[3], &items[4], &items[5],
+    ))
+}
+
+/// The items of an array of seven.
+pub fn septuple(
+    value: &Value,
+) -> Result<(&Value, &Value, &Value, &Value, &Value, &Value, &Value), ReadError>
+    ensures { Gives (λ p. (view p.0.now, view p.1.now, view p.2.now, view p.3.now, view p.4.now, view p.5.now, view p.6.now)) result (septuple_at (view value.now)) }
+{
+    seven(items(value)?)
+}
+
+/// Seven items.
+#[tactic(auto, using(crate::proofs::OtherLength::not_seven))]
+pub fn seven(
+    items: &[Value],
+) -> Result<(&Value, &Value, &Value, &Value, &Value, &Value, &Value), ReadError>
+    ensures { Gives (λ p. (view p.0.now, view p.1.now, view p.2.now, view p.3.now, view p.4.now, view p.5.now, view p.6.now)) result (seven_of (items_view items.now)) }
+{
+    if items.len() != 7 {
+        return Err(ReadError::Refused);
+    }
+    Ok((
+        &items[0], &items[1], &items[2], &items[3], &items[4], &items[5], &items[6],
+    ))
+}
+
+/// A member of an object.
+pub fn member<'v>(value: &'v Value, name: &str) -> Result<&'v Value, ReadError>
+    ensures { Gives (λ v. view v.now) result (get name.now (view value.now)) }
+{
+    match value.get(name) {
+        Some(value) => Ok(value),
+        None => Err(ReadError::Refused),
+    }
 }

@@ -1,23 +1,31 @@
 //! Settings and layers.
-ghost use Rattle.std.specs.Prelude.{◌≡◌, IfOk};
+ghost use Rattle.std.specs.Prelude.{◌≡◌, IfOk, IfErr, OnOk};
+ghost use Rattle.runcheck.specs.Forms.{optional_at};
 ghost use Rattle.runcheck.specs.JsonData.{data_of};
 ghost use Rattle.runcheck.specs.Reading.{Reads};
-ghost use Rattle.runcheck.specs.Readings.{timeouts_at, deadlines_at, layer_at, layer_of_items};
+ghost use Rattle.runcheck.specs.SettingReadings.{timeouts_at, spec_at, mode_at, reconnect_at, retry_at, stall_at, marked, setting_at, user_key, front_key, back_key, key_of_text, layer_entry_at, put_kept, layer_items, layer_at};
+ghost use Rattle.runcheck.specs.declared.read.ReadError.TheVariants.{Memory};
 ghost use Rattle.serde_json.specs.View.{view, items_view};
 ghost use Rattle.runcheck.specs.Values.{null_or, timeouts_data, spec_data, retry_data, stall_data, value_data, key_text, layer_entry_data, layer_data};
 ghost use Rattle.serde_json.specs.Data.{string};
 
 use crate::forms::{
-    print_blob, print_optional_number, print_texts, read_null, read_optional_number, read_tagged,
+    print_blob, print_optional_number, print_texts, read_blob, read_optional_number, read_texts,
+    read_true, read_word,
 };
-use crate::names::{mode_name, reconnect_name};
+use crate::lists::named_once;
+use crate::names::{mode_name, mode_named, reconnect_name, reconnect_named};
 use crate::{Json, ReadError, Row, read};
 use serde_json::Value;
 use smithy_base::{
-    Layer, LayerEntry, OutOfMemory, RetryConfig, RetrySpec, Setting, SettingKey, Shared,
-    StalledStreamProtectionConfig, TimeoutConfig,
+    Layer, LayerEntry, OutOfMemory, ReconnectMode, RetryConfig, RetryMode, RetryPartition,
+    RetrySpec, RetrySpecVersion, Setting, SettingKey, Shared, StalledStreamProtectionConfig, Text,
+    TimeoutConfig,
 };
 use std::alloc::Global;
+
+/// How many keys of a layer are kept: one more than a script may name.
+const KEPT_KEYS: usize = 65;
 
 /// The four deadlines.
 #[tactic(auto, unfolding(crate::specs::Values::timeouts_data))]
@@ -161,52 +169,294 @@ pub fn print_layer(alloc: Global, layer: &Layer) -> Result<Json, OutOfMemory>
     Ok(row.finish())
 }
 
-/// The deadlines, those of the operation and of an attempt unset.
-#[tactic(auto, unfolding(crate::specs::Readings::timeouts_at))]
+/// The four deadlines.
+#[tactic(auto, unfolding(crate::specs::SettingReadings::timeouts_at))]
 pub fn read_timeouts(value: &Value) -> Result<TimeoutConfig, ReadError>
     ensures { Reads result (timeouts_at (view value.now)) }
 {
     let (connect, reading, operation, attempt) = read::quadruple(value)?;
     let connect = read_optional_number(connect)?;
     let reading = read_optional_number(reading)?;
-    read_null(operation)?;
-    read_null(attempt)?;
+    let operation = read_optional_number(operation)?;
+    let attempt = read_optional_number(attempt)?;
     Ok(TimeoutConfig {
         connect,
         read: reading,
-        operation: None,
-        attempt: None,
+        operation,
+        attempt,
     })
 }
 
-/// A layer without settings, or with the deadlines alone.
-#[tactic(auto, unfolding(crate::specs::Readings::layer_at))]
+/// A specification of retries.
+#[tactic(auto, unfolding(crate::specs::SettingReadings::spec_at))]
+pub fn read_spec(value: &Value) -> Result<RetrySpec, ReadError>
+    ensures { Reads result (spec_at (view value.now)) }
+{
+    let (version, long_polling, backoff) = read::triple(value)?;
+    read_word("V2_0", version)?;
+    let long_polling = read::boolean(long_polling)?;
+    let non_throttling_initial_backoff = read::number(backoff)?;
+    Ok(RetrySpec {
+        version: RetrySpecVersion::V2_0,
+        long_polling,
+        non_throttling_initial_backoff,
+    })
+}
+
+/// A specification of retries, or null.
+#[tactic(auto, unfolding(crate::specs::Forms::optional_at))]
+pub fn read_optional_spec(value: &Value) -> Result<Option<RetrySpec>, ReadError>
+    ensures { Reads result (optional_at spec_at (view value.now)) }
+{
+    match value {
+        Value::Null => Ok(None),
+        _ => Ok(Some(read_spec(value)?)),
+    }
+}
+
+#[tactic(auto, unfolding(crate::specs::SettingReadings::mode_at))]
+fn read_mode(value: &Value) -> Result<RetryMode, ReadError>
+    ensures { Reads result (mode_at (view value.now)) }
+{
+    match mode_named(read::str(value)?) {
+        Some(mode) => Ok(mode),
+        None => Err(ReadError::Refused),
+    }
+}
+
+#[tactic(auto, unfolding(crate::specs::SettingReadings::reconnect_at))]
+fn read_reconnect(value: &Value) -> Result<ReconnectMode, ReadError>
+    ensures { Reads result (reconnect_at (view value.now)) }
+{
+    match reconnect_named(read::str(value)?) {
+        Some(mode) => Ok(mode),
+        None => Err(ReadError::Refused),
+    }
+}
+
+/// How an operation is retried.
+#[tactic(auto, unfolding(crate::specs::SettingReadings::retry_at))]
+pub fn read_retry(value: &Value) -> Result<RetryConfig, ReadError>
+    ensures { Reads result (retry_at (view value.now)) }
+{
+    let (mode, attempts, initial, longest, reconnect, base, spec) = read::septuple(value)?;
+    let mode = read_mode(mode)?;
+    let max_attempts = read::number_32(attempts)?;
+    let initial_backoff = read::number(initial)?;
+    let max_backoff = read::number(longest)?;
+    let reconnect = read_reconnect(reconnect)?;
+    let static_base = read::boolean(base)?;
+    let spec = read_optional_spec(spec)?;
+    Ok(RetryConfig {
+        mode,
+        max_attempts,
+        initial_backoff,
+        max_backoff,
+        reconnect,
+        static_base,
+        spec,
+    })
+}
+
+/// Whether streams that stall are given up.
+#[tactic(auto, unfolding(crate::specs::SettingReadings::stall_at))]
+pub fn read_stall(value: &Value) -> Result<StalledStreamProtectionConfig, ReadError>
+    ensures { Reads result (stall_at (view value.now)) }
+{
+    let (upload, download, grace_period) = read::triple(value)?;
+    let upload = read::boolean(upload)?;
+    let download = read::boolean(download)?;
+    let grace_period = read::number(grace_period)?;
+    Ok(StalledStreamProtectionConfig {
+        upload,
+        download,
+        grace_period,
+    })
+}
+
+// A mark.
+fn read_mark(mark: Setting, value: &Value) -> Result<Setting, ReadError>
+    ensures { Reads result (marked mark (view value.now)) }
+{
+    read_true(value)?;
+    Ok(mark)
+}
+
+/// The value of a key's setting.
+#[tactic(auto, unfolding(crate::specs::SettingReadings::setting_at))]
+pub fn read_setting(alloc: Global, key: &SettingKey, value: &Value) -> Result<Setting, ReadError>
+    ensures { Reads result (setting_at key.now (view value.now)) }
+{
+    match key {
+        SettingKey::Timeouts => Ok(Setting::Timeouts(read_timeouts(value)?)),
+        SettingKey::Retry => Ok(Setting::Retry(read_retry(value)?)),
+        SettingKey::Stall => Ok(Setting::Stall(read_stall(value)?)),
+        SettingKey::LoadBody => Ok(Setting::LoadBody(read::boolean(value)?)),
+        SettingKey::Partition => {
+            let name = read::text(alloc, value)?;
+            Ok(Setting::Partition(RetryPartition::new(name)))
+        }
+        SettingKey::Bucket => Ok(Setting::Bucket(read::number_32(value)?)),
+        SettingKey::Prefix => Ok(Setting::Prefix(read::text(alloc, value)?)),
+        SettingKey::Preference => Ok(Setting::Preference(read_texts(alloc, value)?)),
+        SettingKey::V2 => read_mark(Setting::V2, value),
+        SettingKey::EndpointParams => read_mark(Setting::EndpointParams, value),
+        SettingKey::AuthParams => read_mark(Setting::AuthParams, value),
+        SettingKey::EnforceLength => read_mark(Setting::EnforceLength, value),
+        SettingKey::Disable => Ok(Setting::Disable(read_texts(alloc, value)?)),
+        SettingKey::Capture => Ok(Setting::Capture(read::number(value)?)),
+        SettingKey::Poisoned => Ok(Setting::Poisoned(read::number(value)?)),
+        SettingKey::Upload => read_mark(Setting::Upload, value),
+        SettingKey::User(name) => {
+            let bytes = read_blob(alloc, value)?;
+            Ok(Setting::User(name.clone()?, bytes))
+        }
+    }
+}
+
+/// The value of a key's setting, or null for the mark that the key is unset.
+#[tactic(auto, unfolding(crate::specs::Forms::optional_at))]
+pub fn read_optional_setting(
+    alloc: Global,
+    key: &SettingKey,
+    value: &Value,
+) -> Result<Option<Shared<Setting>>, ReadError>
+    ensures { Reads result (optional_at (setting_at key.now) (view value.now)) }
+{
+    match value {
+        Value::Null => Ok(None),
+        _ => {
+            let setting = read_setting(alloc, key, value)?;
+            Ok(Some(Shared::new(alloc, setting)?))
+        }
+    }
+}
+
+// The first keys of the table.
+#[tactic(auto, unfolding(crate::specs::SettingReadings::front_key))]
+fn front_key(text: &str) -> Option<SettingKey>
+    ensures { result ≡ front_key text.now }
+{
+    if text == "timeouts" {
+        Some(SettingKey::Timeouts)
+    } else if text == "retry" {
+        Some(SettingKey::Retry)
+    } else if text == "stall" {
+        Some(SettingKey::Stall)
+    } else if text == "load_body" {
+        Some(SettingKey::LoadBody)
+    } else if text == "partition" {
+        Some(SettingKey::Partition)
+    } else if text == "bucket" {
+        Some(SettingKey::Bucket)
+    } else if text == "prefix" {
+        Some(SettingKey::Prefix)
+    } else if text == "preference" {
+        Some(SettingKey::Preference)
+    } else {
+        None
+    }
+}
+
+// Those behind them.
+#[tactic(auto, unfolding(crate::specs::SettingReadings::back_key))]
+fn back_key(text: &str) -> Option<SettingKey>
+    ensures { result ≡ back_key text.now }
+{
+    if text == "v2" {
+        Some(SettingKey::V2)
+    } else if text == "endpoint_params" {
+        Some(SettingKey::EndpointParams)
+    } else if text == "auth_params" {
+        Some(SettingKey::AuthParams)
+    } else if text == "enforce_length" {
+        Some(SettingKey::EnforceLength)
+    } else if text == "disable" {
+        Some(SettingKey::Disable)
+    } else if text == "capture" {
+        Some(SettingKey::Capture)
+    } else if text == "poisoned" {
+        Some(SettingKey::Poisoned)
+    } else if text == "upload" {
+        Some(SettingKey::Upload)
+    } else {
+        None
+    }
+}
+
+// A key of the caller's own.
+#[tactic(auto, unfolding(crate::specs::SettingReadings::user_key))]
+fn user_key(alloc: Global, text: &str) -> Result<SettingKey, ReadError>
+    ensures { Reads result (user_key text.now) }
+{
+    match text.strip_prefix("user.") {
+        Some(name) => Ok(SettingKey::User(Text::from_str(alloc, name)?)),
+        None => Err(ReadError::Refused),
+    }
+}
+
+/// The key that is printed so.
+#[tactic(auto, unfolding(crate::specs::SettingReadings::key_of_text))]
+pub fn key_named(alloc: Global, text: &str) -> Result<SettingKey, ReadError>
+    ensures { Reads result (key_of_text text.now) }
+{
+    if let Some(key) = front_key(text) {
+        return Ok(key);
+    }
+    if let Some(key) = back_key(text) {
+        return Ok(key);
+    }
+    user_key(alloc, text)
+}
+
+/// What a layer says of one key.
+#[tactic(auto, unfolding(crate::specs::SettingReadings::layer_entry_at))]
+pub fn read_layer_entry(alloc: Global, value: &Value) -> Result<LayerEntry, ReadError>
+    ensures { Reads result (layer_entry_at (view value.now)) }
+{
+    let (key, value) = read::pair(value)?;
+    let key = key_named(alloc, read::str(key)?)?;
+    let value = read_optional_setting(alloc, &key, value)?;
+    Ok(LayerEntry { key, value })
+}
+
+/// A layer, each key of which stands once. All are read; one more is kept than a script may name.
+#[tactic(auto, unfolding(crate::specs::SettingReadings::layer_at))]
 pub fn read_layer(alloc: Global, value: &Value) -> Result<Layer, ReadError>
     ensures { Reads result (layer_at (view value.now)) }
 {
     let items = read::items(value)?;
-    layer_of_items(alloc, items)
+    named_once(alloc, items)?;
+    layer_items(alloc, items)
 }
 
-#[tactic(auto, using(crate::proofs::OtherLength::not_one))]
-fn layer_of_items(alloc: Global, items: &[Value]) -> Result<Layer, ReadError>
-    ensures { Reads result (layer_of_items (items_view items.now)) }
+#[tactic(auto, using(crate::proofs::LayerReading::layer_reading))]
+fn layer_items(alloc: Global, items: &[Value]) -> Result<Layer, ReadError>
+    ensures { Reads result (layer_items (items_view items.now)) }
 {
-    match items {
-        [] => Ok(Layer::new()),
-        [only] => timeouts_layer(alloc, only),
-        [_, _, ..] => Err(ReadError::Refused),
-    }
-}
-
-// The layer of the deadlines.
-#[tactic(auto, unfolding(crate::specs::Readings::deadlines_at))]
-fn timeouts_layer(alloc: Global, value: &Value) -> Result<Layer, ReadError>
-    ensures { Reads result (deadlines_at (view value.now)) }
-{
-    let value = read_tagged("timeouts", value)?;
-    let timeouts = read_timeouts(value)?;
     let mut layer = Layer::new();
-    layer.put(alloc, Setting::Timeouts(timeouts))?;
+    for index in 0..items.len() {
+        match read_layer_entry(alloc, &items[index]) {
+            Ok(entry) => put_kept(alloc, index, &mut layer, entry)?,
+            Err(error) => return Err(error),
+        }
+    }
     Ok(layer)
+}
+
+// Puts an entry into a layer, where it is one of those that are kept.
+fn put_kept(
+    alloc: Global,
+    index: usize,
+    layer: &mut Layer,
+    entry: LayerEntry,
+) -> Result<(), ReadError>
+    ensures ok { OnOk result (layer.new ≡ put_kept index layer.old entry) }
+    ensures err { IfErr result (λ e. e ≡ Memory) }
+{
+    if index >= KEPT_KEYS {
+        return Ok(());
+    }
+    layer.set(alloc, entry)?;
+    Ok(())
 }

@@ -2,3 +2,5 @@ pub mod Pieces
 pub mod Digits
 pub mod Lists
 pub mod Replays
+pub mod KeyCount
+pub mod ScriptAnswers

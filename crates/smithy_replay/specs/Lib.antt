@@ -5,5 +5,6 @@ pub mod Streams
 pub mod Status
 pub mod Words
 pub mod Script
+pub mod Endings
 pub mod Replay
 pub mod Run

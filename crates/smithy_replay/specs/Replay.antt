@@ -1,5 +1,5 @@
 -- What the replay of a script prints.
-use Rattle.std.specs.Prelude.{ℕ, ◌≡◌, ◌≤◌, ◌+◌, List, [], ◌∷◌, ◌++◌, Option, Some, None, IfSome, codes, length, option_to_list, map}
+use Rattle.std.specs.Prelude.{ℕ, ◌≡◌, ◌<◌, ◌≤◌, ◌⊎◌, ◌+◌, true, false, List, [], ◌∷◌, ◌++◌, Option, Some, None, IfSome, codes, length, option_to_list, map}
 use Rattle.serde_json.specs.Data.{Data, string}
 use Rattle.serde_json.specs.Written.{compact_text}
 use Rattle.smithy_base.specs.declared.fault.SdkError.{SdkError}
@@ -13,9 +13,10 @@ use Rattle.run_grammar.specs.declared.answer.Entry.{Entry}
 use Rattle.run_grammar.specs.declared.question.Question.{Question}
 use Rattle.run_grammar.specs.declared.question.Question.TheVariants as questions
 use Rattle.runcheck.specs.Names.{stop_text}
-use Rattle.runcheck.specs.Values.{row, num, payload_data, request_data, response_data, fault_data, answer_data, kind_data}
+use Rattle.runcheck.specs.Values.{row, num, null_or, payload_data, request_data, response_data, fault_data, answer_data, kind_data}
 use Rattle.smithy_replay.specs.Moves.{Follows}
-use Rattle.smithy_replay.specs.Script.{IsInput}
+use Rattle.smithy_replay.specs.Endings.{Ends}
+use Rattle.smithy_replay.specs.Script.{IsScript, IsInput, is_within}
 use Rattle.smithy_replay.specs.Streams.{FrontFollows}
 use Rattle.smithy_replay.specs.declared.ending.Ending.{Ending}
 use Rattle.smithy_replay.specs.declared.ending.Ending.TheVariants as endings
@@ -60,12 +61,14 @@ error_data (errors.ServiceError payload response) = row (string (codes "ServiceE
 
 unfoldable pub ending_data : Ending → Data
 ending_data (endings.Output payload) = row (string (codes "Ok") ∷ payload_data payload ∷ [])
+ending_data (endings.Stopped request) = row (string (codes "Stopped") ∷ null_or request_data request ∷ [])
 ending_data (endings.Error error) = error_data error
 ending_data endings.Unfinished = row (string (codes "Unfinished") ∷ [])
 ending_data (endings.WrongType payload) = row (string (codes "WrongType") ∷ payload_data payload ∷ [])
 
 abbrev pub status_of : Ending → Status
 status_of (endings.Output payload) = statuses.Ok
+status_of (endings.Stopped request) = statuses.Ok
 status_of (endings.Error error) = statuses.SdkError
 status_of endings.Unfinished = statuses.Unfinished
 status_of (endings.WrongType payload) = statuses.WrongType
@@ -73,17 +76,27 @@ status_of (endings.WrongType payload) = statuses.WrongType
 unfoldable pub replay_text : ScriptHead → List Entry → Ending → List ℕ
 replay_text s log e = line (begin_data s) ++ entries_text 1 log ++ line (ending_data e)
 
--- The text is the print of a log and an ending, and the status is the ending's.
+-- The text is the print of a run of the script's operation and of its ending, and the status is the ending's.
 abbrev pub IsReplay : Script → List ℕ → Status → Type 0
-IsReplay s text status = (log : List Entry) × (e : Ending) × (length log ≤ (s.head).fuel) × (text ≡ replay_text s.head log e) × (status ≡ status_of e)
+IsReplay s text status = (log : List Entry) × (e : Ending) × Ends s.head [] log e × (text ≡ replay_text s.head log e) × (status ≡ status_of e)
 
--- These bytes were read to their end, and all that their replay prints was written.
+-- These bytes are a script within its limits, they were read to their end, and all that their replay prints was written.
 abbrev pub ReplayedWhole : List ℕ → Status → Option (List ℕ) → Option (List ℕ) → Option (List ℕ) → Type 0
-ReplayedWhole bytes status left before after = (s : Script) × IsInput bytes s × (left ≡ Some []) × (text : List ℕ) × IsReplay s text status × Follows text before after
+ReplayedWhole bytes status left before after =
+    (s : Script) × IsInput bytes s × (is_within s ≡ true) × (left ≡ Some []) × (text : List ℕ) × IsReplay s text status × Follows text before after
 
 -- A front of it was written.
 abbrev pub ReplayedFront : List ℕ → Option (List ℕ) → Option (List ℕ) → Option (List ℕ) → Type 0
-ReplayedFront bytes left before after = (s : Script) × IsInput bytes s × (left ≡ Some []) × (text : List ℕ) × (status : Status) × IsReplay s text status × FrontFollows text before after
+ReplayedFront bytes left before after =
+    (s : Script) × IsInput bytes s × (is_within s ≡ true) × (left ≡ Some []) × (text : List ℕ) × (status : Status) × IsReplay s text status × FrontFollows text before after
+
+-- They were read to their end, and are no script.
+abbrev pub NoScript : List ℕ → Option (List ℕ) → Type 0
+NoScript bytes left = (length bytes ≤ 16777216) × (left ≡ Some []) × ((s : Script) → IsScript bytes s → ⊥)
+
+-- There are more than an input may have; or they were read to their end, and are a script that passes a limit.
+abbrev pub PassesLimit : List ℕ → Option (List ℕ) → Type 0
+PassesLimit bytes left = (16777216 < length bytes) ⊎ ((s : Script) × IsInput bytes s × (is_within s ≡ false) × (left ≡ Some []))
 
 -- what each status says of the bytes that were told to be left before
 abbrev pub ReplayOf : List ℕ → Status → Option (List ℕ) → Option (List ℕ) → Option (List ℕ) → Type 0
@@ -92,11 +105,11 @@ ReplayOf bytes statuses.SdkError left before after = ReplayedWhole bytes statuse
 ReplayOf bytes statuses.Unfinished left before after = ReplayedWhole bytes statuses.Unfinished left before after
 ReplayOf bytes statuses.WrongType left before after = ReplayedWhole bytes statuses.WrongType left before after
 ReplayOf bytes statuses.WriteFault left before after = ReplayedFront bytes left before after
-ReplayOf bytes statuses.NotBuilt left before after = (s : Script) → IsInput bytes s → ⊥
 ReplayOf bytes statuses.ReadFault left before after = Unit {0}
 ReplayOf bytes statuses.OutOfMemory left before after = Unit {0}
 ReplayOf bytes statuses.BadWords left before after = ⊥
-ReplayOf bytes statuses.BadScript left before after = ⊥
-ReplayOf bytes statuses.TooLarge left before after = ⊥
+ReplayOf bytes statuses.BadScript left before after = NoScript bytes left
+ReplayOf bytes statuses.TooLarge left before after = PassesLimit bytes left
+ReplayOf bytes statuses.NotBuilt left before after = ⊥
 ReplayOf bytes statuses.CheckNo left before after = ⊥
 ReplayOf bytes statuses.WaiterFailed left before after = ⊥

@@ -30,8 +30,7 @@ is_quiet statuses.TooLarge = true
 is_quiet statuses.NotBuilt = true
 is_quiet _ = false
 
--- an input that is too large isn't of a form that is built
 abbrev pub unread_status : InputError → Status
 unread_status errors.Fault = statuses.ReadFault
-unread_status errors.TooLarge = statuses.NotBuilt
+unread_status errors.TooLarge = statuses.TooLarge
 unread_status errors.OutOfMemory = statuses.OutOfMemory

@@ -1,14 +1,19 @@
 //! How a replayed run ended.
-ghost use Rattle.std.specs.Prelude.{◌≡◌, IfOk};
+ghost use Rattle.std.specs.Prelude.{◌≡◌, Some, IfOk};
+ghost use Rattle.runcheck.specs.Values.{null_or, request_data};
+ghost use Rattle.smithy_replay.specs.Endings.{output_ending, error_ending, failed_ending, stopped_by, ending_of, stopped_ending_of};
 ghost use Rattle.runcheck.specs.JsonData.{data_of};
 ghost use Rattle.smithy_replay.specs.Replay.{error_data, ending_data, status_of};
 
+use crate::script::ScriptHead;
 use crate::status::Status;
 use orchestrate::InvokeError;
 use runcheck::Json;
 use runcheck::fault::print_fault;
-use runcheck::http::{print_payload, print_response};
-use smithy_base::{OutOfMemory, Payload, SdkError};
+use runcheck::http::{print_payload, print_request, print_response};
+use smithy_base::{
+    HookView, HttpRequest, InterceptorContext, OutOfMemory, Outcome, Payload, SdkError,
+};
 use std::alloc::Global;
 
 /// How a run ended.
@@ -16,6 +21,8 @@ use std::alloc::Global;
 pub enum Ending {
     /// With an output of the script's kind.
     Output(Payload),
+    /// At the stop point, with the request that stands there.
+    Stopped(Option<HttpRequest>),
     /// With an error of the operation.
     Error(SdkError<Payload>),
     /// The fuel was used up.
@@ -25,26 +32,87 @@ pub enum Ending {
 }
 
 impl Ending {
-    /// The ending of a run, its output and its error held to these kinds.
+    /// The ending of a run to its end, its output and its error held to the script's kinds.
+    #[tactic(auto, unfolding(crate::specs::Endings::ending_of))]
     pub fn of(
         answer: Result<Payload, InvokeError<Payload>>,
-        output_kind: u64,
-        error_kind: u64,
-    ) -> Result<Ending, OutOfMemory> {
+        head: &ScriptHead,
+    ) -> Result<Ending, OutOfMemory>
+        ensures { IfOk result (λ e. ending_of head.now answer ≡ Some e) }
+    {
         match answer {
-            Ok(output) if output.kind as u64 == output_kind => Ok(Ending::Output(output)),
-            Ok(output) => Ok(Ending::WrongType(output)),
-            Err(InvokeError::Sdk(SdkError::ServiceError(error, response))) => {
-                if error.kind as u64 == error_kind {
-                    Ok(Ending::Error(SdkError::ServiceError(error, response)))
+            Ok(output) => Ok(Ending::of_output(output, head.output_kind)),
+            Err(error) => Ending::of_failure(error, head.error_kind),
+        }
+    }
+
+    /// The ending of a run to its stop point: the request that stands, or an output that a hook
+    /// wrote, which isn't held to a kind.
+    #[tactic(auto, unfolding(crate::specs::Endings::stopped_ending_of))]
+    pub fn of_stopped(
+        answer: Result<InterceptorContext, InvokeError<Payload>>,
+        head: &ScriptHead,
+    ) -> Result<Ending, OutOfMemory>
+        ensures { IfOk result (λ e. stopped_ending_of head.now answer ≡ Some e) }
+    {
+        match answer {
+            Ok(context) => {
+                let (outcome, request) = standing(context.view);
+                Ok(Ending::of_standing(outcome, request))
+            }
+            Err(error) => Ending::of_failure(error, head.error_kind),
+        }
+    }
+
+    fn of_standing(outcome: Option<Outcome>, request: Option<HttpRequest>) -> Ending
+        ensures { result ≡ stopped_by request outcome }
+    {
+        match outcome {
+            Some(Outcome::Output(output)) => Ending::Output(output),
+            _ => Ending::Stopped(request),
+        }
+    }
+
+    fn of_output(output: Payload, kind: u64) -> Ending
+        ensures { result ≡ output_ending kind output }
+    {
+        if output.kind as u64 == kind {
+            Ending::Output(output)
+        } else {
+            Ending::WrongType(output)
+        }
+    }
+
+    fn of_failure(error: InvokeError<Payload>, kind: u64) -> Result<Ending, OutOfMemory>
+        ensures { IfOk result (λ e. failed_ending kind error ≡ Some e) }
+    {
+        match error {
+            InvokeError::Sdk(error) => Ok(Ending::of_error(error, kind)),
+            InvokeError::Unfinished => Ok(Ending::Unfinished),
+            InvokeError::WrongType(payload) => Ok(Ending::WrongType(payload)),
+            InvokeError::OutOfMemory => Err(OutOfMemory),
+        }
+    }
+
+    fn of_error(error: SdkError<Payload>, kind: u64) -> Ending
+        ensures { result ≡ error_ending kind error }
+    {
+        match error {
+            SdkError::ServiceError(payload, response) => {
+                if payload.kind as u64 == kind {
+                    Ending::Error(SdkError::ServiceError(payload, response))
                 } else {
-                    Ok(Ending::WrongType(error))
+                    Ending::WrongType(payload)
                 }
             }
-            Err(InvokeError::Sdk(error)) => Ok(Ending::Error(error)),
-            Err(InvokeError::Unfinished) => Ok(Ending::Unfinished),
-            Err(InvokeError::WrongType(payload)) => Ok(Ending::WrongType(payload)),
-            Err(InvokeError::OutOfMemory) => Err(OutOfMemory),
+            SdkError::ConstructionFailure(fault) => {
+                Ending::Error(SdkError::ConstructionFailure(fault))
+            }
+            SdkError::TimeoutError(fault) => Ending::Error(SdkError::TimeoutError(fault)),
+            SdkError::DispatchFailure(fault) => Ending::Error(SdkError::DispatchFailure(fault)),
+            SdkError::ResponseError(fault, response) => {
+                Ending::Error(SdkError::ResponseError(fault, response))
+            }
         }
     }
 
@@ -54,11 +122,20 @@ impl Ending {
     {
         match self {
             Ending::Output(_) => Status::Ok,
+            Ending::Stopped(_) => Status::Ok,
             Ending::Error(_) => Status::SdkError,
             Ending::Unfinished => Status::Unfinished,
             Ending::WrongType(_) => Status::WrongType,
         }
     }
+}
+
+// The outcome and the request that stand.
+fn standing(view: HookView) -> (Option<Outcome>, Option<HttpRequest>)
+    ensures outcome { result.0 ≡ view.outcome }
+    ensures request { result.1 ≡ view.request }
+{
+    (view.outcome, view.request)
 }
 
 /// The last line of a print.
@@ -68,11 +145,24 @@ pub fn print_ending(alloc: Global, ending: &Ending) -> Result<Json, OutOfMemory>
 {
     match ending {
         Ending::Output(payload) => Json::tagged(alloc, "Ok", print_payload(alloc, payload)?),
+        Ending::Stopped(request) => {
+            Json::tagged(alloc, "Stopped", print_optional_request(alloc, request)?)
+        }
         Ending::Error(error) => print_error(alloc, error),
         Ending::Unfinished => Json::single(alloc, Json::text(alloc, "Unfinished")?),
         Ending::WrongType(payload) => {
             Json::tagged(alloc, "WrongType", print_payload(alloc, payload)?)
         }
+    }
+}
+
+// Null where there is no request. No run leaves none at its stop point.
+fn print_optional_request(alloc: Global, request: &Option<HttpRequest>) -> Result<Json, OutOfMemory>
+    ensures { IfOk result (λ j. data_of j ≡ null_or request_data request.now) }
+{
+    match request {
+        Some(request) => print_request(alloc, request),
+        None => Ok(Json::null()),
     }
 }
 

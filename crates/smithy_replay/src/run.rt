@@ -3,22 +3,23 @@ ghost use Rattle.std.specs.Prelude.{◌≡◌, ◌≢◌, ◌≤◌, ◌<◌, []
 ghost use Rattle.smithy_replay.specs.Faults.{Rose};
 ghost use Rattle.smithy_replay.specs.Replay.{IsReplay, ReplayOf};
 ghost use Rattle.smithy_replay.specs.Run.{Printed, Did};
-ghost use Rattle.smithy_replay.specs.Script.{IsScript};
+ghost use Rattle.smithy_replay.specs.Endings.{Ends};
+ghost use Rattle.smithy_replay.specs.Script.{IsScript, is_within};
 ghost use Rattle.smithy_replay.specs.declared.script.Script.{Script};
 ghost use Rattle.smithy_replay.specs.Status.{is_quiet, unread_status};
 ghost use Rattle.smithy_replay.specs.Words.{command_of};
 
 use crate::ending::Ending;
 use crate::print::print_replay;
-use crate::script::{Script, read_script};
+use crate::script::{Script, ScriptHead, is_within, read_script};
 use crate::sink::Sink;
 use crate::source::Source;
 use crate::status::Status;
 use crate::streams::{InputError, SinkFault, read_all, write_all};
 use crate::words::{Command, command_in};
-use orchestrate::{Operation, ScriptWorld};
+use orchestrate::{ScriptWorld, invoke, invoke_with_stop_point};
 use runcheck::ReadError;
-use smithy_base::{OutOfMemory, Payload, Text};
+use smithy_base::{OutOfMemory, StopPoint, Text};
 use std::alloc::Global;
 use std::sync::Wait;
 use std::thread::Threads;
@@ -123,13 +124,13 @@ fn replay<S: Source, K: Sink>(alloc: Global, source: &mut S, sink: &mut K) -> St
     }
 }
 
-// The status where an input was not read. One that is too large isn't of a form that is built.
+// The status where an input was not read.
 fn unread(error: InputError) -> Status
     ensures { result ≡ unread_status error }
 {
     match error {
         InputError::Fault => Status::ReadFault,
-        InputError::TooLarge => Status::NotBuilt,
+        InputError::TooLarge => Status::TooLarge,
         InputError::OutOfMemory => Status::OutOfMemory,
     }
 }
@@ -149,8 +150,9 @@ fn replay_bytes<K: Sink>(alloc: Global, bytes: &[u8], sink: &mut K) -> Status
             Ok(()) => print.status,
             Err(SinkFault) => Status::WriteFault,
         },
-        Err(ReadError::Memory) => Status::OutOfMemory,
-        Err(ReadError::Refused) => Status::NotBuilt,
+        Err(Unprinted::OutOfMemory) => Status::OutOfMemory,
+        Err(Unprinted::BadScript) => Status::BadScript,
+        Err(Unprinted::TooLarge) => Status::TooLarge,
     }
 }
 
@@ -161,13 +163,43 @@ struct Print {
     status: Status,
 }
 
+// Why there is nothing to be written.
+#[derive(Clone, Copy)]
+enum Unprinted {
+    OutOfMemory,
+    // The bytes are no script.
+    BadScript,
+    // The script passes a limit.
+    TooLarge,
+}
+
 // The print of the script that the bytes are.
-fn print_of_bytes(alloc: Global, bytes: &[u8]) -> Result<Print, ReadError>
-    ensures found { IfOk result (λ p. (s : Script) × IsScript bytes.now s × IsReplay s p.text.items p.status) }
-    ensures refused { IsErrOf result ReadError.Refused → (s : Script) → IsScript bytes.now s → ⊥ }
+fn print_of_bytes(alloc: Global, bytes: &[u8]) -> Result<Print, Unprinted>
+    ensures found { IfOk result (λ p. (s : Script) × IsScript bytes.now s × (is_within s ≡ true) × IsReplay s p.text.items p.status) }
+    ensures bad { IsErrOf result Unprinted.BadScript → (s : Script) → IsScript bytes.now s → ⊥ }
+    ensures large { IsErrOf result Unprinted.TooLarge → (s : Script) × IsScript bytes.now s × (is_within s ≡ false) }
 {
-    let script = read_script(alloc, bytes)?;
-    Ok(print_of_script(alloc, script)?)
+    match read_script(alloc, bytes) {
+        Ok(script) => print_within(alloc, script),
+        Err(ReadError::Memory) => Err(Unprinted::OutOfMemory),
+        Err(ReadError::Refused) => Err(Unprinted::BadScript),
+    }
+}
+
+// The print of a script, where it is within its limits.
+fn print_within(alloc: Global, script: Script) -> Result<Print, Unprinted>
+    ensures found { IfOk result (λ p. (is_within script ≡ true) × IsReplay script p.text.items p.status) }
+    ensures bad { IsErrOf result Unprinted.BadScript → ⊥ }
+    ensures large { IsErrOf result Unprinted.TooLarge → is_within script ≡ false }
+{
+    match is_within(alloc, &script) {
+        Ok(true) => match print_of_script(alloc, script) {
+            Ok(print) => Ok(print),
+            Err(OutOfMemory) => Err(Unprinted::OutOfMemory),
+        },
+        Ok(false) => Err(Unprinted::TooLarge),
+        Err(OutOfMemory) => Err(Unprinted::OutOfMemory),
+    }
 }
 
 // Runs the operation against the script's answers.
@@ -176,15 +208,32 @@ fn print_of_script(alloc: Global, script: Script) -> Result<Print, OutOfMemory>
 {
     let Script { head, answers } = script;
     let mut world = ScriptWorld::new(alloc, answers)?;
-    let operation: Operation<Payload, Payload, Payload> = Operation::named(
-        Text::new(),
-        Text::new(),
-    );
-    let answer = operation.invoke(alloc, &mut world, head.input.clone()?, head.fuel);
-    let ending = Ending::of(answer, head.output_kind, head.error_kind)?;
+    let ending = run_script(alloc, &head, &mut world)?;
     let text = print_replay(alloc, &head, world.entries().as_slice(), &ending)?;
     Ok(Print {
         text,
         status: ending.status(),
     })
+}
+
+// Runs the operation to its end, or to its stop point.
+fn run_script(
+    alloc: Global,
+    head: &ScriptHead,
+    world: &mut ScriptWorld,
+) -> Result<Ending, OutOfMemory>
+    ensures { IfOk result (λ e. Ends head.now world.old.log world.new.log e) }
+{
+    let input = head.input.clone()?;
+    match head.stop {
+        StopPoint::None => {
+            let answer = invoke(alloc, "", "", world, input, head.fuel);
+            Ending::of(answer, head)
+        }
+        StopPoint::BeforeTransmit => {
+            let stop = StopPoint::BeforeTransmit;
+            let answer = invoke_with_stop_point(alloc, "", "", world, input, stop, head.fuel);
+            Ending::of_stopped(answer, head)
+        }
+    }
 }

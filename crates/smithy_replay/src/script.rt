@@ -1,21 +1,27 @@
-//! Scripts of the first form: the answers of one successful attempt.
-ghost use Rattle.std.specs.Prelude.{◌≡◌, IfOk, IsErrOf, option_map};
+//! Scripts of `replay`.
+ghost use Rattle.std.specs.Prelude.{◌≡◌, [], nat_le, length, IfOk, IsErrOf, option_map};
 ghost use Rattle.serde_json.specs.Errors.{IsMemory};
-ghost use Rattle.serde_json.specs.Find.{get};
 ghost use Rattle.serde_json.specs.View.{view, items_view, members_view};
-ghost use Rattle.runcheck.specs.Reading.{Reads, Gives};
-ghost use Rattle.smithy_replay.specs.Script.{first_kinds, script_answer_at, answers_at, is_listed, members_all, listed_at, stop_of, answer_fits, outputs_fit, checked_first, script_at, IsScript};
+ghost use Rattle.runcheck.specs.Lists.{list_of};
+ghost use Rattle.runcheck.specs.Reading.{Reads};
+ghost use Rattle.smithy_replay.specs.Script.{script_answer_at, is_listed, members_all, listed_at, stop_at, stop_of, script_at, IsScript, answers_fit, keys_fit, is_within};
 
 use orchestrate::ScriptAnswer;
-use run_grammar::{Answer, ConfigureStage, Kind};
 use runcheck::ReadError;
 use runcheck::answer::{read_answer, read_kind};
-use runcheck::forms::read_word;
 use runcheck::http::read_payload;
-use runcheck::read::{items, number, pair};
+use runcheck::limits::{add_keys, answer_fits};
+use runcheck::names::stop_named;
+use runcheck::read::{items, member, number, pair, str};
 use serde_json::{Error, Map, Value};
-use smithy_base::{List, Outcome, Payload, StopPoint};
+use smithy_base::{List, OutOfMemory, Payload, SettingKey, StopPoint};
 use std::alloc::Global;
+
+/// The most fuel of a script.
+const FUEL_LIMIT: u64 = 100_000;
+
+/// The most different keys that the layers of a script may name.
+const KEY_LIMIT: usize = 64;
 
 /// What a run is begun with.
 #[derive(Drop)]
@@ -36,24 +42,6 @@ pub struct Script {
     pub head: ScriptHead,
     pub answers: List<ScriptAnswer>,
 }
-
-/// The kinds of the answers, in their order.
-const FIRST_KINDS: [Kind; 14] = [
-    Kind::Configure(ConfigureStage::Client),
-    Kind::Configure(ConfigureStage::Operation),
-    Kind::Configure(ConfigureStage::Final),
-    Kind::Serialize,
-    Kind::Initial,
-    Kind::Choose,
-    Kind::Endpoint,
-    Kind::Apply,
-    Kind::Sign,
-    Kind::Transmit,
-    Kind::Stream,
-    Kind::Body,
-    Kind::Deserialize,
-    Kind::Decide,
-];
 
 /// The script that the bytes are the text of.
 pub fn read_script(alloc: Global, bytes: &[u8]) -> Result<Script, ReadError>
@@ -96,17 +84,7 @@ fn script_in(alloc: Global, value: &Value) -> Result<Script, ReadError>
         output_kind,
         error_kind,
     };
-    checked(Script { head, answers })
-}
-
-// A member of an object.
-fn member<'v>(value: &'v Value, name: &str) -> Result<&'v Value, ReadError>
-    ensures { Gives (λ v. view v.now) result (get name.now (view value.now)) }
-{
-    match value.get(name) {
-        Some(value) => Ok(value),
-        None => Err(ReadError::Refused),
-    }
+    Ok(Script { head, answers })
 }
 
 // The stop point, none where it is left out.
@@ -114,11 +92,18 @@ fn stop_in(value: Option<&Value>) -> Result<StopPoint, ReadError>
     ensures { Reads result (stop_of (option_map (λ v. view v.now) value.entry)) }
 {
     match value {
-        Some(value) => {
-            read_word("None", value)?;
-            Ok(StopPoint::None)
-        }
+        Some(value) => read_stop(value),
         None => Ok(StopPoint::None),
+    }
+}
+
+#[tactic(auto, unfolding(crate::specs::Script::stop_at))]
+fn read_stop(value: &Value) -> Result<StopPoint, ReadError>
+    ensures { Reads result (stop_at (view value.now)) }
+{
+    match stop_named(str(value)?) {
+        Some(stop) => Ok(stop),
+        None => Err(ReadError::Refused),
     }
 }
 
@@ -162,27 +147,14 @@ fn is_listed(name: &str) -> bool
         || name == "answers"
 }
 
-// One answer for each kind.
+// The answers, in their order.
+#[tactic(auto, using(crate::proofs::ScriptAnswers::answer_reading))]
 fn read_answers(alloc: Global, list: &[Value]) -> Result<List<ScriptAnswer>, ReadError>
-    ensures { Reads result (answers_at first_kinds (items_view list.now)) }
+    ensures { Reads result (list_of script_answer_at (items_view list.now)) }
 {
-    answers_of_kinds(alloc, &FIRST_KINDS, list)
-}
-
-// One answer for each of these kinds.
-fn answers_of_kinds(
-    alloc: Global,
-    kinds: &[Kind],
-    list: &[Value],
-) -> Result<List<ScriptAnswer>, ReadError>
-    ensures { Reads result (answers_at kinds.now (items_view list.now)) }
-{
-    if list.len() != kinds.len() {
-        return Err(ReadError::Refused);
-    }
     let mut answers = List::new();
-    for index in 0..kinds.len() {
-        match script_answer(alloc, kinds[index], &list[index]) {
+    for value in list {
+        match script_answer(alloc, value) {
             Ok(answer) => answers.push(alloc, answer)?,
             Err(error) => return Err(error),
         }
@@ -192,43 +164,41 @@ fn answers_of_kinds(
 
 // A kind as it is printed, and its answer.
 #[tactic(auto, unfolding(crate::specs::Script::script_answer_at))]
-fn script_answer(alloc: Global, kind: Kind, value: &Value) -> Result<ScriptAnswer, ReadError>
-    ensures { Reads result (script_answer_at kind (view value.now)) }
+fn script_answer(alloc: Global, value: &Value) -> Result<ScriptAnswer, ReadError>
+    ensures { Reads result (script_answer_at (view value.now)) }
 {
-    let (name, answer) = pair(value)?;
-    read_kind(kind, name)?;
+    let (kind, answer) = pair(value)?;
+    let kind = read_kind(kind)?;
     let answer = read_answer(alloc, kind, answer)?;
     Ok(ScriptAnswer { kind, answer })
 }
 
-// The scripts whose fuel and output are those of the first form.
-fn checked(script: Script) -> Result<Script, ReadError>
-    ensures { Reads result (checked_first script) }
+/// Whether fuel, texts, bodies, heads and keys of a script are within their limits.
+pub fn is_within(alloc: Global, script: &Script) -> Result<bool, OutOfMemory>
+    ensures { IfOk result (λ b. b ≡ is_within script.now) }
 {
-    if 34 <= script.head.fuel
-        && script.head.fuel <= 100_000
-        && outputs_fit(script.head.output_kind, script.answers.as_slice())
-    {
-        Ok(script)
-    } else {
-        Err(ReadError::Refused)
+    let answers = script.answers.as_slice();
+    if script.head.fuel > FUEL_LIMIT || !answers_fit(answers) {
+        return Ok(false);
     }
+    keys_fit(alloc, answers)
 }
 
-fn outputs_fit(kind: u64, answers: &[ScriptAnswer]) -> bool
-    ensures { result ≡ outputs_fit kind answers.now }
+fn answers_fit(answers: &[ScriptAnswer]) -> bool
+    ensures { result ≡ answers_fit answers.now }
 {
-    answers
-        .iter()
-        .all(|answer| answer_fits(kind, &answer.answer))
+    answers.iter().all(|answer| answer_fits(&answer.answer))
 }
 
-// An output is of this kind.
-fn answer_fits(kind: u64, answer: &Answer) -> bool
-    ensures { result ≡ answer_fits kind answer.now }
+fn keys_fit(alloc: Global, answers: &[ScriptAnswer]) -> Result<bool, OutOfMemory>
+    ensures { IfOk result (λ b. b ≡ keys_fit answers.now) }
 {
-    match answer {
-        Answer::Outcome(Outcome::Output(payload)) => payload.kind as u64 == kind,
-        _ => true,
+    let mut keys: List<SettingKey> = List::new();
+    for answer in answers {
+        add_keys(alloc, &mut keys, &answer.answer)?;
+        if keys.len() > KEY_LIMIT {
+            return Ok(false);
+        }
     }
+    Ok(true)
 }

@@ -105,27 +105,17 @@ fn a_successful_attempt_is_replayed(rt: HostRuntime) -> Result<(), Fail> {
 }
 
 #[test]
-fn other_inputs_are_not_built(rt: HostRuntime) -> Result<(), Fail> {
-    for text in ["", "{\"fuel\":1.5}", "{\"fuel\":34}", "[]"] {
+fn a_read_that_fails_is_a_read_fault(rt: HostRuntime) -> Result<(), Fail> {
+    // The first read takes all bytes, the second one finds the end.
+    for read in [0, 1] {
         let words = words_of(rt.alloc(), "replay")?;
-        let mut source = SureSource::new(text.as_bytes().to_vec(rt.alloc())?);
-        let mut sink = SureSink::new(rt.alloc());
+        let failing = List::from_vec([read].to_vec(rt.alloc())?);
+        let mut source = MemorySource::new(TEAPOT.as_bytes().to_vec(rt.alloc())?, failing);
+        let mut sink = MemorySink::new(rt.alloc(), List::new());
         let status = run(&rt, rt.alloc(), words.as_slice(), &mut source, &mut sink);
-        assert_eq!(rt; status, Status::NotBuilt, "at {text}");
-        assert_eq!(rt; sink.bytes.len(), 0, "at {text}");
+        assert_eq!(rt; status, Status::ReadFault, "at read {read}");
+        assert_eq!(rt; sink.bytes.len(), 0, "at read {read}");
     }
-    Ok(())
-}
-
-#[test]
-fn a_first_read_that_fails_is_a_read_fault(rt: HostRuntime) -> Result<(), Fail> {
-    let words = words_of(rt.alloc(), "replay")?;
-    let failing = List::from_vec([0].to_vec(rt.alloc())?);
-    let mut source = MemorySource::new(TEAPOT.as_bytes().to_vec(rt.alloc())?, failing);
-    let mut sink = MemorySink::new(rt.alloc(), List::new());
-    let status = run(&rt, rt.alloc(), words.as_slice(), &mut source, &mut sink);
-    assert_eq!(rt; status, Status::ReadFault);
-    assert_eq!(rt; sink.bytes.len(), 0);
     Ok(())
 }
 
