@@ -4,3 +4,4 @@ pub mod Lists
 pub mod Replays
 pub mod KeyCount
 pub mod ScriptAnswers
+pub mod Spelling

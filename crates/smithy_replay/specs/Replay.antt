@@ -15,6 +15,8 @@ use Rattle.run_grammar.specs.declared.question.Question.TheVariants as questions
 use Rattle.runcheck.specs.Names.{stop_text}
 use Rattle.runcheck.specs.Values.{row, num, null_or, payload_data, request_data, response_data, fault_data, answer_data, kind_data}
 use Rattle.smithy_replay.specs.Moves.{Follows}
+use Rattle.orchestrate.specs.declared.script.ScriptAnswer.{ScriptAnswer}
+use Rattle.orchestrate.specs.Script.{Spelled}
 use Rattle.smithy_replay.specs.Endings.{Ends}
 use Rattle.smithy_replay.specs.Script.{IsScript, IsInput, is_within}
 use Rattle.smithy_replay.specs.Streams.{FrontFollows}
@@ -76,9 +78,13 @@ status_of (endings.WrongType payload) = statuses.WrongType
 unfoldable pub replay_text : ScriptHead → List Entry → Ending → List ℕ
 replay_text s log e = line (begin_data s) ++ entries_text 1 log ++ line (ending_data e)
 
--- The text is the print of a run of the script's operation and of its ending, and the status is the ending's.
+-- The script's operation ends so over this log, and each answer of the log is what the script gives to its question.
+abbrev pub Replays : Script → List Entry → Ending → Type 0
+Replays s log e = Ends s.head [] log e × (left_over : List ScriptAnswer) × Spelled s.answers log left_over
+
+-- The text is the print of the script's run and of its ending, and the status is the ending's.
 abbrev pub IsReplay : Script → List ℕ → Status → Type 0
-IsReplay s text status = (log : List Entry) × (e : Ending) × Ends s.head [] log e × (text ≡ replay_text s.head log e) × (status ≡ status_of e)
+IsReplay s text status = (log : List Entry) × (e : Ending) × Replays s log e × (text ≡ replay_text s.head log e) × (status ≡ status_of e)
 
 -- These bytes are a script within its limits, they were read to their end, and all that their replay prints was written.
 abbrev pub ReplayedWhole : List ℕ → Status → Option (List ℕ) → Option (List ℕ) → Option (List ℕ) → Type 0

@@ -1,5 +1,6 @@
 //! The program over a source and a sink.
 ghost use Rattle.std.specs.Prelude.{◌≡◌, ◌≢◌, ◌≤◌, ◌<◌, [], true, false, ◌↔◌, Some, None, IfSome, IfOk, IfErr, IsErrOf, length};
+ghost use Rattle.orchestrate.specs.Script.{Spelled};
 ghost use Rattle.smithy_replay.specs.Faults.{Rose};
 ghost use Rattle.smithy_replay.specs.Replay.{IsReplay, ReplayOf};
 ghost use Rattle.smithy_replay.specs.Run.{Printed, Did};
@@ -222,7 +223,8 @@ fn run_script(
     head: &ScriptHead,
     world: &mut ScriptWorld,
 ) -> Result<Ending, OutOfMemory>
-    ensures { IfOk result (λ e. Ends head.now world.old.log world.new.log e) }
+    ensures ends { IfOk result (λ e. Ends head.now world.old.log world.new.log e) }
+    ensures spelled { IfOk result (λ e. world.old.log ≡ [] → Spelled world.old.answers world.new.log world.new.answers) }
 {
     let input = head.input.clone()?;
     match head.stop {

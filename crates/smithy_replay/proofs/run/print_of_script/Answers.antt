@@ -1,5 +1,7 @@
 use Rattle.std.proofs.Common.{◌∙◌, sym, ap, subst, List}
 use Rattle.run_grammar.specs.declared.answer.Entry.{Entry}
+use Rattle.orchestrate.specs.declared.script.ScriptAnswer.{ScriptAnswer}
+use Rattle.orchestrate.specs.Script.{Spelled}
 use Rattle.smithy_replay.specs.Endings.{Ends}
 use Rattle.smithy_replay.specs.Replay.{replay_text}
 use Rattle.smithy_replay.proofs.run.print_of_script.Goals as goal
@@ -8,7 +10,11 @@ pub returns : goal.returns
 returns c = (
   c.run_script.new.world.log,
   c.in_ok-ending.ending,
-  subst (λ (l : List Entry). Ends c.args.script.head l c.run_script.new.world.log c.in_ok-ending.ending) c.in_ok-world.ensures.log c.in_ok-ending.ensures,
+  (
+    subst (λ (l : List Entry). Ends c.args.script.head l c.run_script.new.world.log c.in_ok-ending.ending) c.in_ok-world.ensures.log c.in_ok-ending.ensures.ends,
+    c.run_script.new.world.answers,
+    subst (λ (a : List ScriptAnswer). Spelled a c.run_script.new.world.log c.run_script.new.world.answers) c.in_ok-world.ensures.answers (c.in_ok-ending.ensures.spelled c.in_ok-world.ensures.log),
+  ),
   c.in_ok-text.ensures ∙ ap (λ (l : List Entry). replay_text c.args.script.head l c.in_ok-ending.ending) (c.as_slice.ensures ∙ c.entries.ensures),
   c.status.ensures,
 )
