@@ -4,6 +4,8 @@
 pub mod refusing;
 pub mod script;
 pub mod spelled;
+#[cfg(test)]
+mod tests;
 
 pub use refusing::RefusingWorld;
 pub use script::{Line, world};

@@ -1,0 +1,623 @@
+//! Runs with their calls and their answers.
+
+use super::*;
+use crate::script::{ANSWERED, CONFIGURED, DECIDED, DELAYED, GRANTED, OPENED, UNAVAILABLE};
+use crate::spelled::Spelled;
+use orchestrate::Operation;
+use run_grammar::{Abandonable, ConfigureStage, Role};
+use smithy_base::{Blob, Choice, Hook, OutOfMemory, Text, Wire};
+
+/// One attempt, with all hooks.
+pub const TEAPOT: Row = Row {
+    name: "one attempt",
+    script: &[CONFIGURED, GRANTED, OPENED, ANSWERED, DECIDED],
+    calls: 34,
+    asked: WHOLE_ATTEMPT,
+    answer: "Ok 1 I'm a teapot!",
+};
+
+/// An attempt that fails, a delay, and one that has an output.
+pub const SECOND_ATTEMPT: Row = Row {
+    name: "a second attempt",
+    script: &[
+        CONFIGURED,
+        GRANTED,
+        OPENED,
+        UNAVAILABLE,
+        DELAYED,
+        OPENED,
+        ANSWERED,
+        DECIDED,
+    ],
+    calls: 57,
+    asked: &[
+        asked::CONFIGURED,
+        asked::SERIALIZED,
+        asked::GRANTED,
+        asked::CHOSEN,
+        asked::SIGNED,
+        asked::TRANSMITTED,
+        asked::READ,
+        asked::DESERIALIZED,
+        asked::READ_AFTER,
+        asked::COMPLETED,
+        asked::DECIDED,
+        asked::DELAYED,
+        asked::CHOSEN,
+        asked::SIGNED,
+        asked::TRANSMITTED,
+        asked::READ,
+        asked::DESERIALIZED,
+        asked::READ_AFTER,
+        asked::COMPLETED,
+        asked::DECIDED,
+        asked::FINISHED,
+    ],
+    answer: "Ok 1 I'm a teapot!",
+};
+
+/// The operation's deadline passes during the delay before the second attempt.
+pub const CUT_IN_DELAY: Row = Row {
+    name: "a cut in the delay",
+    script: &[
+        OPERATION_TIMED,
+        GRANTED,
+        OPENED,
+        UNAVAILABLE,
+        DELAY_PENDING,
+        OPERATION_PASSED,
+    ],
+    calls: 39,
+    asked: &[
+        asked::CONFIGURED,
+        asked::OPERATION_STARTED,
+        asked::SERIALIZED,
+        asked::GRANTED,
+        asked::CHOSEN,
+        asked::SIGNED,
+        asked::TRANSMITTED,
+        asked::READ,
+        asked::DESERIALIZED,
+        asked::READ_AFTER,
+        asked::COMPLETED,
+        asked::DECIDED,
+        asked::DELAYED,
+        &[
+            Kind::Wait(Role::Operation),
+            Kind::Abandon(Abandonable::WaitRetry),
+        ],
+        asked::FINISHED,
+    ],
+    answer: OPERATION_TIMEOUT,
+};
+
+/// The text of an operation's deadline of 5 ns.
+pub const OPERATION_TIMEOUT: &str =
+    "TimeoutError Timeout operation timeout (all attempts including retries) occurred after 5 ns";
+
+/// The operation has a deadline, and an attempt has none.
+pub const OPERATION_TIMED: &[Line] = &[
+    (
+        Kind::Configure(ConfigureStage::Client),
+        Spelled::Timeouts(Some(5), None),
+    ),
+    (
+        Kind::Configure(ConfigureStage::Operation),
+        Spelled::NoSettings,
+    ),
+    (Kind::Configure(ConfigureStage::Final), Spelled::NoSettings),
+    (Kind::Start(Role::Operation), Spelled::Started),
+];
+
+/// The operation's deadline passes.
+pub const OPERATION_PASSED: &[Line] = &[(Kind::Wait(Role::Operation), Spelled::Ready)];
+
+/// A delay that isn't over.
+pub const DELAY_PENDING: &[Line] = &[
+    (Kind::Decide, Spelled::Decided(Choice::Delay(1_000_000_000))),
+    (Kind::Start(Role::Retry), Spelled::Started),
+    (Kind::Wait(Role::Retry), Spelled::Pending),
+];
+
+/// Runs of one attempt.
+const ONE_ATTEMPT: &[Row] = &[
+    TEAPOT,
+    Row {
+        name: "an operation timeout of 0",
+        script: &[
+            &[
+                (
+                    Kind::Configure(ConfigureStage::Client),
+                    Spelled::Timeouts(Some(0), None),
+                ),
+                (
+                    Kind::Configure(ConfigureStage::Operation),
+                    Spelled::NoSettings,
+                ),
+                (Kind::Configure(ConfigureStage::Final), Spelled::NoSettings),
+                (Kind::Start(Role::Operation), Spelled::Started),
+            ],
+            GRANTED,
+            OPENED,
+            ANSWERED,
+            DECIDED,
+        ],
+        calls: 35,
+        asked: &[
+            asked::CONFIGURED,
+            asked::OPERATION_STARTED,
+            asked::SERIALIZED,
+            asked::GRANTED,
+            asked::CHOSEN,
+            asked::SIGNED,
+            asked::TRANSMITTED,
+            asked::READ,
+            asked::DESERIALIZED,
+            asked::READ_AFTER,
+            asked::COMPLETED,
+            asked::DECIDED,
+            asked::FINISHED,
+        ],
+        answer: "Ok 1 I'm a teapot!",
+    },
+    Row {
+        name: "a configuration that fails",
+        script: &[&[(
+            Kind::Configure(ConfigureStage::Client),
+            Spelled::Failed("x"),
+        )]],
+        calls: 1,
+        asked: &[&[Kind::Configure(ConfigureStage::Client)]],
+        answer: "ConstructionFailure Other x",
+    },
+    Row {
+        name: "a client's hook that fails",
+        script: &[&[
+            (Kind::Configure(ConfigureStage::Client), Spelled::NoSettings),
+            (
+                Kind::Hook(Hook::ReadBeforeExecutionClient),
+                Spelled::HookFailed("x"),
+            ),
+            (
+                Kind::Configure(ConfigureStage::Operation),
+                Spelled::NoSettings,
+            ),
+            (Kind::Configure(ConfigureStage::Final), Spelled::NoSettings),
+        ]],
+        calls: 7,
+        asked: &[asked::CONFIGURED, asked::FINISHED],
+        answer: "ConstructionFailure Interceptor ReadBeforeExecutionClient x",
+    },
+    Row {
+        name: "a delay before the first attempt",
+        script: &[
+            CONFIGURED,
+            &[
+                (Kind::Serialize, Spelled::Request("/")),
+                (Kind::Initial, Spelled::Delay(5)),
+                (Kind::Start(Role::Send), Spelled::Started),
+                (Kind::Wait(Role::Send), Spelled::Ready),
+                (Kind::Initial, Spelled::Go),
+            ],
+            OPENED,
+            ANSWERED,
+            DECIDED,
+        ],
+        calls: 37,
+        asked: &[
+            asked::CONFIGURED,
+            asked::SERIALIZED,
+            asked::GRANTED,
+            &[
+                Kind::Start(Role::Send),
+                Kind::Wait(Role::Send),
+                Kind::Initial,
+            ],
+            asked::CHOSEN,
+            asked::SIGNED,
+            asked::TRANSMITTED,
+            asked::READ,
+            asked::DESERIALIZED,
+            asked::READ_AFTER,
+            asked::COMPLETED,
+            asked::DECIDED,
+            asked::FINISHED,
+        ],
+        answer: "Ok 1 I'm a teapot!",
+    },
+];
+
+/// Attempts that fail.
+const FAILED: &[Row] = &[
+    Row {
+        name: "a connector that fails",
+        script: &[
+            CONFIGURED,
+            GRANTED,
+            OPENED,
+            &[(Kind::Transmit, Spelled::ConnectorFailed("x"))],
+            DECIDED,
+        ],
+        calls: 27,
+        asked: NOT_SENT,
+        answer: "DispatchFailure Connector Io x",
+    },
+    Row {
+        name: "a decision behind answers that aren't asked for",
+        script: &[
+            CONFIGURED,
+            GRANTED,
+            OPENED,
+            &[
+                (Kind::Transmit, Spelled::ConnectorFailed("x")),
+                (Kind::Stream, Spelled::NotStreaming),
+                (Kind::Body, Spelled::Read("I'm a teapot!")),
+                (Kind::Deserialize, Spelled::Output(1, "I'm a teapot!")),
+            ],
+            DECIDED,
+        ],
+        calls: 27,
+        asked: NOT_SENT,
+        answer: "DispatchFailure Other absent",
+    },
+    Row {
+        name: "a body that can't be read",
+        script: &[
+            CONFIGURED,
+            GRANTED,
+            OPENED,
+            &[
+                (Kind::Transmit, Spelled::Response(418, "I'm a teapot!")),
+                (Kind::Stream, Spelled::NotStreaming),
+                (Kind::Body, Spelled::Failed("x")),
+            ],
+            DECIDED,
+        ],
+        calls: 33,
+        asked: &[
+            asked::CONFIGURED,
+            asked::SERIALIZED,
+            asked::GRANTED,
+            asked::CHOSEN,
+            asked::SIGNED,
+            asked::TRANSMITTED,
+            asked::READ,
+            asked::READ_AFTER,
+            asked::COMPLETED,
+            asked::DECIDED,
+            asked::FINISHED,
+        ],
+        answer: "ResponseError Response x, 418 I'm a teapot!",
+    },
+    Row {
+        name: "an error of the service",
+        script: &[
+            CONFIGURED,
+            GRANTED,
+            OPENED,
+            &[
+                (Kind::Transmit, Spelled::Response(418, "I'm a teapot!")),
+                (Kind::Stream, Spelled::NotStreaming),
+                (Kind::Body, Spelled::Read("I'm a teapot!")),
+                (Kind::Deserialize, Spelled::OutcomeService(2, "no", "t")),
+            ],
+            DECIDED,
+        ],
+        calls: 34,
+        asked: WHOLE_ATTEMPT,
+        answer: "ServiceError 2 no, 418 I'm a teapot!",
+    },
+];
+
+/// One attempt up to its output or its service's error.
+const WHOLE_ATTEMPT: &[&[Kind]] = &[
+    asked::CONFIGURED,
+    asked::SERIALIZED,
+    asked::GRANTED,
+    asked::CHOSEN,
+    asked::SIGNED,
+    asked::TRANSMITTED,
+    asked::READ,
+    asked::DESERIALIZED,
+    asked::READ_AFTER,
+    asked::COMPLETED,
+    asked::DECIDED,
+    asked::FINISHED,
+];
+
+/// An attempt whose request isn't sent.
+const NOT_SENT: &[&[Kind]] = &[
+    asked::CONFIGURED,
+    asked::SERIALIZED,
+    asked::GRANTED,
+    asked::CHOSEN,
+    asked::SIGNED,
+    asked::TRANSMITTED,
+    asked::COMPLETED,
+    asked::DECIDED,
+    asked::FINISHED,
+];
+
+/// Runs that are tried again, or would be.
+const FURTHER: &[Row] = &[
+    SECOND_ATTEMPT,
+    Row {
+        name: "a body that can be sent once",
+        script: &[
+            CONFIGURED,
+            &[
+                (Kind::Serialize, Spelled::OnceRequest("/")),
+                (Kind::Initial, Spelled::Go),
+            ],
+            OPENED,
+            UNAVAILABLE,
+            DELAYED,
+        ],
+        calls: 35,
+        asked: &[
+            asked::CONFIGURED,
+            asked::SERIALIZED,
+            asked::GRANTED,
+            asked::CHOSEN,
+            asked::SIGNED,
+            asked::TRANSMITTED,
+            asked::READ,
+            asked::DESERIALIZED,
+            asked::READ_AFTER,
+            asked::COMPLETED,
+            asked::DECIDED,
+            &[Kind::Start(Role::Retry)],
+            asked::FINISHED,
+        ],
+        answer: "DispatchFailure Connector Io x",
+    },
+    Row {
+        name: "a hook that sets a timeout for the next attempt",
+        script: &[
+            CONFIGURED,
+            GRANTED,
+            &[(Kind::Hook(Hook::ReadBeforeAttempt), Spelled::HookTimeout(5))],
+            OPENED,
+            UNAVAILABLE,
+            DELAYED,
+            OPENED,
+            ANSWERED,
+            DECIDED,
+        ],
+        calls: 58,
+        asked: &[
+            asked::CONFIGURED,
+            asked::SERIALIZED,
+            asked::GRANTED,
+            asked::CHOSEN,
+            asked::SIGNED,
+            asked::TRANSMITTED,
+            asked::READ,
+            asked::DESERIALIZED,
+            asked::READ_AFTER,
+            asked::COMPLETED,
+            asked::DECIDED,
+            asked::DELAYED,
+            asked::ATTEMPT_STARTED,
+            asked::CHOSEN,
+            asked::SIGNED,
+            asked::TRANSMITTED,
+            asked::READ,
+            asked::DESERIALIZED,
+            asked::READ_AFTER,
+            asked::COMPLETED,
+            asked::DECIDED,
+            asked::FINISHED,
+        ],
+        answer: "Ok 1 I'm a teapot!",
+    },
+];
+
+/// Runs that a deadline cuts.
+const CUT: &[Row] = &[
+    CUT_IN_DELAY,
+    Row {
+        name: "the operation's deadline",
+        script: &[
+            OPERATION_TIMED,
+            GRANTED,
+            OPENED,
+            &[(Kind::Transmit, Spelled::Pending)],
+            OPERATION_PASSED,
+        ],
+        calls: 29,
+        asked: &[
+            asked::CONFIGURED,
+            asked::OPERATION_STARTED,
+            asked::SERIALIZED,
+            asked::GRANTED,
+            asked::CHOSEN,
+            asked::SIGNED,
+            asked::TRANSMITTED,
+            &[
+                Kind::Wait(Role::Operation),
+                Kind::Abandon(Abandonable::Transmit),
+            ],
+            asked::COMPLETED,
+            asked::FINISHED,
+        ],
+        answer: OPERATION_TIMEOUT,
+    },
+    Row {
+        name: "the operation's deadline, asked twice",
+        script: &[
+            OPERATION_TIMED,
+            GRANTED,
+            OPENED,
+            &[
+                (Kind::Transmit, Spelled::Pending),
+                (Kind::Wait(Role::Operation), Spelled::Pending),
+                (Kind::Park, Spelled::Parked),
+                (Kind::Transmit, Spelled::Pending),
+            ],
+            OPERATION_PASSED,
+        ],
+        calls: 32,
+        asked: &[
+            asked::CONFIGURED,
+            asked::OPERATION_STARTED,
+            asked::SERIALIZED,
+            asked::GRANTED,
+            asked::CHOSEN,
+            asked::SIGNED,
+            asked::TRANSMITTED,
+            &[Kind::Wait(Role::Operation), Kind::Park],
+            asked::TRANSMITTED,
+            &[
+                Kind::Wait(Role::Operation),
+                Kind::Abandon(Abandonable::Transmit),
+            ],
+            asked::COMPLETED,
+            asked::FINISHED,
+        ],
+        answer: OPERATION_TIMEOUT,
+    },
+    Row {
+        name: "the attempt's deadline",
+        script: &[
+            &[
+                (
+                    Kind::Configure(ConfigureStage::Client),
+                    Spelled::Timeouts(None, Some(5)),
+                ),
+                (
+                    Kind::Configure(ConfigureStage::Operation),
+                    Spelled::NoSettings,
+                ),
+                (Kind::Configure(ConfigureStage::Final), Spelled::NoSettings),
+            ],
+            GRANTED,
+            &[(Kind::Start(Role::Attempt), Spelled::Started)],
+            OPENED,
+            &[
+                (Kind::Transmit, Spelled::Pending),
+                (Kind::Wait(Role::Attempt), Spelled::Ready),
+            ],
+            DECIDED,
+        ],
+        calls: 30,
+        asked: &[
+            asked::CONFIGURED,
+            asked::SERIALIZED,
+            asked::GRANTED,
+            asked::ATTEMPT_STARTED,
+            asked::CHOSEN,
+            asked::SIGNED,
+            asked::TRANSMITTED,
+            &[
+                Kind::Wait(Role::Attempt),
+                Kind::Abandon(Abandonable::Transmit),
+            ],
+            asked::COMPLETED,
+            asked::DECIDED,
+            asked::FINISHED,
+        ],
+        answer: "TimeoutError Timeout operation attempt timeout (single attempt) occurred after 5 ns",
+    },
+];
+
+#[test]
+fn runs_ask_and_answer_as_their_rows_say(rt: HostRuntime) -> Result<(), Fail> {
+    for table in [ONE_ATTEMPT, FAILED, FURTHER, CUT] {
+        for row in table {
+            holds(&rt, rt.alloc(), row)?;
+        }
+    }
+    Ok(())
+}
+
+/// Two attempts: the endpoint is put into the first request, and the second one is sent.
+const HANDED: &str = "GET / what are you?
+GET http://localhost:1234/ what are you?
+GET / what are you?
+GET http://localhost:1234/ what are you?
+";
+
+#[test]
+fn a_second_attempt_begins_with_the_first_ones_request(rt: HostRuntime) -> Result<(), Fail> {
+    let alloc = rt.alloc();
+    let ran = run(alloc, SECOND_ATTEMPT.script, 57)?;
+    assert_eq!(rt; ran.handed.as_str(), HANDED);
+    Ok(())
+}
+
+#[test]
+fn a_run_stops_before_its_request_is_sent(rt: HostRuntime) -> Result<(), Fail> {
+    let alloc = rt.alloc();
+    let mut world = world(alloc, &[CONFIGURED, GRANTED, OPENED, DECIDED])?;
+    let input = payload(alloc, 1, "what are you?")?;
+    let stop = StopPoint::BeforeTransmit;
+    let answer = invoke_with_stop_point(alloc, "s", "o", &mut world, input, stop, 34);
+    let told = told::stopped(alloc, &answer)?;
+    assert_eq!(rt;
+        told.as_str(),
+        "Stopped GET http://localhost:1234/ what are you?"
+    );
+    let kinds = asked::kinds(alloc, world.entries().as_slice())?;
+    assert_eq!(rt; kinds.len(), 26);
+    assert_eq!(rt; kinds.as_slice(), asked::joined(alloc, STOPPED)?.as_slice());
+    Ok(())
+}
+
+/// One attempt up to the stop point.
+const STOPPED: &[&[Kind]] = &[
+    asked::CONFIGURED,
+    asked::SERIALIZED,
+    asked::GRANTED,
+    asked::CHOSEN,
+    asked::SIGNED,
+    asked::COMPLETED,
+    asked::DECIDED,
+    asked::FINISHED,
+];
+
+/// Bytes that are carried as a payload of kind 3, and read from no other.
+#[derive(Drop)]
+struct OfKindThree {
+    bytes: Blob,
+}
+
+impl Wire for OfKindThree {
+    ghost use Rattle.std.specs.Prelude.{◌≡◌, ◌==◌};
+
+    ghost accepts = { λ p. p.kind == 3 };
+
+    ghost reads_as = { λ p v. v.bytes ≡ p.bytes };
+
+    fn to_payload(&self, _alloc: Global) -> Result<Payload, OutOfMemory> {
+        Ok(Payload {
+            kind: 3,
+            bytes: self.bytes.clone()?,
+        })
+    }
+
+    fn from_payload(_alloc: Global, payload: &Payload) -> Result<Option<OfKindThree>, OutOfMemory> {
+        if payload.kind != 3 {
+            return Ok(None);
+        }
+        Ok(Some(OfKindThree {
+            bytes: payload.bytes.clone()?,
+        }))
+    }
+}
+
+#[test]
+fn an_output_of_another_kind_is_of_the_wrong_type(rt: HostRuntime) -> Result<(), Fail> {
+    let alloc = rt.alloc();
+    let mut world = world(alloc, TEAPOT.script)?;
+    let input = payload(alloc, 1, "what are you?")?;
+    let operation: Operation<Payload, OfKindThree, Payload> = Operation::named(
+        Text::from_static("service"),
+        Text::from_static("operation"),
+    );
+    let answer = operation.invoke(alloc, &mut world, input, 34);
+    let told = told::error(alloc, &answer)?;
+    assert_eq!(rt; told.as_str(), "WrongType 1 I'm a teapot!");
+    assert_eq!(rt; world.entries().len(), 34);
+    Ok(())
+}
