@@ -1,7 +1,9 @@
 -- What an answer is determined by.
 use Rattle.std.proofs.Common.{Bool, true, false, ℕ, List, ◌++◌, Result, Ok, Err, ◌≡◌, ◌⊎◌, refl, sym, ap, ◌∙◌, subst, inl, inr, arith}
 use Rattle.std.proofs.lemmas.List.{append_cancel_left}
+use Rattle.smithy_base.specs.declared.context.InterceptorContext.{InterceptorContext}
 use Rattle.smithy_base.specs.declared.fault.SdkError.{SdkError}
+use Rattle.smithy_base.specs.declared.kinds.StopPoint.{StopPoint}
 use Rattle.smithy_base.specs.declared.kinds.StopPoint.TheVariants as stops
 use Rattle.smithy_base.specs.declared.payload.Payload.{Payload}
 use Rattle.run_grammar.specs.declared.answer.Entry.{Entry}
@@ -9,9 +11,10 @@ use Rattle.run_grammar.specs.Standing.{standing, start}
 use Rattle.run_grammar.specs.Laws.{IsWhole}
 use Rattle.orchestrate.specs.declared.execution.InvokeError.{InvokeError}
 use Rattle.orchestrate.specs.declared.execution.InvokeError.TheVariants.{Sdk, Unfinished, WrongType, OutOfMemory}
-use Rattle.orchestrate.specs.Finish.{answer_of}
+use Rattle.orchestrate.specs.Finish.{answer_of, failure_of}
+use Rattle.smithy_base.specs.Failures.{is_failure}
 use Rattle.orchestrate.specs.Handing.{HadMemory}
-use Rattle.orchestrate.specs.Answered.{Refused, UnfinishedRun, WholeRun, PayloadAnswered, OperationAnswered}
+use Rattle.orchestrate.specs.Answered.{Refused, UnfinishedRun, WholeRun, PayloadAnswered, ContextAnswered, OperationAnswered}
 
 -- the answer over payloads of a whole run at whose end this stands
 abbrev given : Result Payload (SdkError Payload) → Result Payload (InvokeError Payload)
@@ -43,6 +46,42 @@ same_by p fuel before log a b (inr (u, e)) (inr (v, f)) = e ∙ sym f
 pub answers_determined : (p : Payload) (fuel : ℕ) (before log : List Entry) (a b : Result Payload (InvokeError Payload)) → HadMemory a → HadMemory b →
     PayloadAnswered p fuel a before log → PayloadAnswered p fuel b before log → a ≡ b
 answers_determined p fuel before log a b s t x y = same_by p fuel before log a b (determined p fuel before log a s x) (determined p fuel before log b t y)
+
+-- ---- runs up to a stop point
+
+-- what a run up to the stop point answers, at whose end this stands
+abbrev handed_back : InterceptorContext → Bool → Result InterceptorContext (InvokeError Payload)
+handed_back c true = Err (Sdk (failure_of c))
+handed_back c false = Ok c
+
+abbrev Handed : Payload → StopPoint → ℕ → Result InterceptorContext (InvokeError Payload) → List Entry → List Entry → Type 0
+Handed p stop fuel r before log =
+    WholeRun p stop fuel before log (λ c. r ≡ handed_back c (is_failure c.view.outcome)) ⊎ (UnfinishedRun p stop fuel before log × (r ≡ Err Unfinished))
+
+handed : (p : Payload) (stop : StopPoint) (fuel : ℕ) (before log : List Entry) (r : Result InterceptorContext (InvokeError Payload)) → HadMemory r → ContextAnswered p stop fuel r before log →
+    Handed p stop fuel r before log
+handed p stop fuel before log (Ok c) h (l, g, b, w, (e, f)) =
+    inl (l, g, b, w, ap Ok e ∙ ap (handed_back (standing (start p) l).context.context) (sym f))
+handed p stop fuel before log (Err (Sdk error)) h (l, g, b, w, (e, f)) =
+    inl (l, g, b, w, ap (λ x. Err (Sdk x)) e ∙ ap (handed_back (standing (start p) l).context.context) (sym f))
+handed p stop fuel before log (Err Unfinished) h u = inr (u, refl)
+handed p stop fuel before log (Err (WrongType q)) h u = absurd u
+handed p stop fuel before log (Err OutOfMemory) h u = absurd h
+
+not_both : (p : Payload) (stop : StopPoint) (before log l m : List Entry) → log ≡ before ++ l → IsWhole stop (start p) l → log ≡ before ++ m → (IsWhole stop (start p) m → ⊥) → ⊥
+not_both p stop before log l m g w h n = n (subst (λ x. IsWhole stop (start p) x) (append_cancel_left before l m (sym g ∙ h)) w)
+
+same_by_end : (p : Payload) (stop : StopPoint) (fuel : ℕ) (before log : List Entry) (a b : Result InterceptorContext (InvokeError Payload)) → Handed p stop fuel a before log →
+    Handed p stop fuel b before log → a ≡ b
+same_by_end p stop fuel before log a b (inl (l, g, x, w, e)) (inl (m, h, y, u, f)) =
+    e ∙ ap (λ k. let c = (standing (start p) k).context.context in handed_back c (is_failure c.view.outcome)) (append_cancel_left before l m (sym g ∙ h)) ∙ sym f
+same_by_end p stop fuel before log a b (inl (l, g, x, w, e)) (inr ((m, h, y, i, n), f)) = absurd (not_both p stop before log l m g w h n)
+same_by_end p stop fuel before log a b (inr ((m, h, y, i, n), f)) (inl (l, g, x, w, e)) = absurd (not_both p stop before log l m g w h n)
+same_by_end p stop fuel before log a b (inr (u, e)) (inr (v, f)) = e ∙ sym f
+
+pub contexts_determined : (p : Payload) (stop : StopPoint) (fuel : ℕ) (before log : List Entry) (a b : Result InterceptorContext (InvokeError Payload)) → HadMemory a → HadMemory b →
+    ContextAnswered p stop fuel a before log → ContextAnswered p stop fuel b before log → a ≡ b
+contexts_determined p stop fuel before log a b s t x y = same_by_end p stop fuel before log a b (handed p stop fuel before log a s x) (handed p stop fuel before log b t y)
 
 abbrev output_or : Payload → Result Payload (SdkError Payload) → Payload
 output_or d (Ok output) = output

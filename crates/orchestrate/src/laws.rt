@@ -1,6 +1,8 @@
 //! What holds of every invocation and of every answer. Each law is the contract of a function
 //! without a body.
 ghost use Rattle.std.specs.Prelude.{◌≡◌, ◌++◌, ℕ, List, Ok, Result, true};
+ghost use Rattle.smithy_base.specs.declared.context.InterceptorContext.{InterceptorContext};
+ghost use Rattle.smithy_base.specs.declared.kinds.StopPoint.{StopPoint};
 ghost use Rattle.smithy_base.specs.declared.kinds.StopPoint.TheVariants as stops;
 ghost use Rattle.smithy_base.specs.declared.payload.Payload.{Payload};
 ghost use Rattle.run_grammar.specs.declared.answer.Entry.{Entry};
@@ -8,7 +10,7 @@ ghost use Rattle.run_grammar.specs.Standing.{State, standing, start};
 ghost use Rattle.run_grammar.specs.Laws.{Begins, IsWhole};
 ghost use Rattle.orchestrate.specs.declared.execution.InvokeError.{InvokeError};
 ghost use Rattle.orchestrate.specs.declared.invocation.Invocation.{Invocation};
-ghost use Rattle.orchestrate.specs.Answered.{OperationAnswered, PayloadAnswered};
+ghost use Rattle.orchestrate.specs.Answered.{ContextAnswered, OperationAnswered, PayloadAnswered};
 ghost use Rattle.orchestrate.specs.Finish.{answer_of};
 ghost use Rattle.orchestrate.specs.Handing.{HadMemory};
 ghost use Rattle.orchestrate.specs.SpelledRuns.{OneSpelledRun};
@@ -22,9 +24,10 @@ pub fn standing_begins_a_run()
 {}
 
 /// Want of memory aside, the answer of a run is determined by the calls that were made and by
-/// `fuel`.
+/// `fuel`, of one to its end and of one up to its stop point.
 pub fn answers_are_determined()
-    ensures { (p : Payload) (fuel : ℕ) (before log : List Entry) (a b : Result Payload (InvokeError Payload)) → HadMemory a → HadMemory b → PayloadAnswered p fuel a before log → PayloadAnswered p fuel b before log → a ≡ b }
+    ensures contexts { (p : Payload) (stop : StopPoint) (fuel : ℕ) (before log : List Entry) (a b : Result InterceptorContext (InvokeError Payload)) → HadMemory a → HadMemory b → ContextAnswered p stop fuel a before log → ContextAnswered p stop fuel b before log → a ≡ b }
+    ensures payloads { (p : Payload) (fuel : ℕ) (before log : List Entry) (a b : Result Payload (InvokeError Payload)) → HadMemory a → HadMemory b → PayloadAnswered p fuel a before log → PayloadAnswered p fuel b before log → a ≡ b }
 {}
 
 /// Want of memory aside, an operation whose calls are a whole run with an output that its type

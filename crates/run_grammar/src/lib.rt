@@ -10,8 +10,6 @@ pub mod laws;
 pub mod question;
 pub mod samples;
 pub mod standing;
-#[cfg(test)]
-mod tests;
 
 pub use answer::{Answer, Chosen, Entry};
 pub use kind::{Abandonable, ConfigureStage, Kind, Role};

@@ -1,5 +1,8 @@
-use Rattle.orchestrate.proofs.Completeness.{answers_determined}
+use Rattle.orchestrate.proofs.Completeness.{answers_determined, contexts_determined}
 use Rattle.orchestrate.proofs.laws.answers_are_determined.Goals as goal
 
-pub returns : goal.returns
-returns c = answers_determined
+pub returns-clause-contexts : goal.returns-clause-contexts
+returns-clause-contexts c = contexts_determined
+
+pub returns-clause-payloads : goal.returns-clause-payloads
+returns-clause-payloads c = answers_determined
