@@ -1,9 +1,13 @@
 //! Replays runs of operations from scripts.
 #![tactic(auto)]
 
+#[cfg(test)]
+mod damaged;
 pub mod ending;
 pub mod memory;
 pub mod print;
+#[cfg(test)]
+mod rows;
 pub mod run;
 pub mod script;
 pub mod sink;
