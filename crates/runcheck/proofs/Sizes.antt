@@ -1,5 +1,5 @@
 -- The bytes of a head, header after header.
-use Rattle.std.proofs.Common.{◌≡◌, ℕ, ◌+◌, ◌<◌, List, [], ◌∷◌, true, false, nat_le, sum_by, refl, arith, ap, sym, ◌∙◌}
+use Rattle.std.proofs.Common.{◌≡◌, ℕ, ◌+◌, ◌<◌, List, ◌∷◌, false, nat_le, sum_by, arith, ap, sym, ◌∙◌}
 use Rattle.std.proofs.lemmas.List.Sums.{sum_by-cons}
 use Rattle.http_header.specs.FieldValue.{FieldValue}
 use Rattle.runcheck.specs.Limits.{header_size}

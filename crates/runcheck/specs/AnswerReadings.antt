@@ -1,6 +1,6 @@
 -- Which notes, answers of hooks, answers and kinds JSON spells.
-use Rattle.std.specs.Prelude.{ℕ, ◌^◌, List, [], ◌∷◌, Option, Some, None, Bool, ◌&&◌, ◌||◌, codes, if◌then◌else◌}
-use Rattle.serde_json.specs.Data.{Data, null}
+use Rattle.std.specs.Prelude.{ℕ, ◌^◌, List, [], Option, Some, None, ◌||◌, codes, if◌then◌else◌}
+use Rattle.serde_json.specs.Data.{Data}
 use Rattle.serde_json.specs.Find.{as_str}
 use Rattle.smithy_base.specs.declared.intercept.HookAnswer.{HookAnswer}
 use Rattle.smithy_base.specs.declared.notes.Choice.{Choice}

@@ -1,12 +1,12 @@
 -- Words, tags and bytes, as JSON spells them.
-use Rattle.std.specs.Prelude.{ℕ, suc, List, [], ◌∷◌, Bool, true, false, ◌&&◌, ◌||◌, ◌==◌, Option, Some, None, Result, Ok, Err, codes, find, nat_le, nat_eq, option_map, if◌then◌else◌}
+use Rattle.std.specs.Prelude.{ℕ, suc, List, Bool, true, false, ◌&&◌, ◌||◌, ◌==◌, Option, Some, None, Result, Ok, Err, codes, find, nat_le, nat_eq, option_map, if◌then◌else◌}
 use Rattle.std.specs.Cmp.Lexicographic.{pointwise}
 use Rattle.std.specs.List.{list_all}
 use Rattle.hex.specs.Hex.{decode_of}
-use Rattle.serde_json.specs.Data.{Data, null, boolean, number, string, array, object, Items, no_items, item, Members, no_members, member}
+use Rattle.serde_json.specs.Data.{Data, null, string, array, Items, no_items, item, Members, no_members, member}
 use Rattle.serde_json.specs.Find.{as_bool, as_str, as_array, as_object, get}
 use Rattle.runcheck.specs.Lists.{list_of}
-use Rattle.runcheck.specs.Plain.{number_at, pair_at}
+use Rattle.runcheck.specs.Plain.{pair_at}
 use Rattle.runcheck.specs.Reading.{◌>>=◌}
 
 -- ---- words

@@ -1,11 +1,10 @@
 -- Which values are within the limits of a script.
-use Rattle.std.specs.Prelude.{ℕ, ◌+◌, List, [], ◌∷◌, ◌++◌, Bool, true, false, ◌&&◌, Option, Some, None, length, map, fold, sum_by, nat_le, if◌then◌else◌}
+use Rattle.std.specs.Prelude.{ℕ, ◌+◌, List, [], ◌∷◌, ◌++◌, Bool, true, ◌&&◌, Option, Some, None, length, map, fold, sum_by, nat_le, if◌then◌else◌}
 use Rattle.std.specs.List.{list_all, list_any}
 use Rattle.http_header.specs.FieldValue.{FieldValue}
 use Rattle.http_header.specs.HeaderMap.{pairs, value_count}
 use Rattle.smithy_base.specs.HeaderList.{HeaderList}
 use Rattle.smithy_base.specs.Setting.{same_key}
-use Rattle.smithy_base.specs.declared.fault.Fault.{Fault}
 use Rattle.smithy_base.specs.declared.fault.Outcome.{Outcome}
 use Rattle.smithy_base.specs.declared.fault.Outcome.TheVariants as outcomes
 use Rattle.smithy_base.specs.declared.http.Body.{Body}

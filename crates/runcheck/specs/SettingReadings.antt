@@ -1,7 +1,7 @@
 -- Which settings and layers JSON spells.
-use Rattle.std.specs.Prelude.{ℕ, ◌^◌, List, [], ◌∷◌, Option, Some, None, Bool, ◌&&◌, codes, drop, take, length, nat_le, nat_lt, nat_eq, option_map, if◌then◌else◌}
+use Rattle.std.specs.Prelude.{ℕ, ◌^◌, List, [], ◌∷◌, Option, Some, None, ◌&&◌, codes, drop, take, length, nat_le, nat_lt, nat_eq, if◌then◌else◌}
 use Rattle.std.specs.Cmp.Lexicographic.{pointwise}
-use Rattle.serde_json.specs.Data.{Data, null, Items}
+use Rattle.serde_json.specs.Data.{Data, Items}
 use Rattle.serde_json.specs.Find.{as_bool, as_str, as_array}
 use Rattle.smithy_base.specs.Layer.{entry, put_entry, merged}
 use Rattle.smithy_base.specs.declared.config.ReconnectMode.{ReconnectMode}

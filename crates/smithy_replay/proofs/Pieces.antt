@@ -1,5 +1,5 @@
 -- Pieces that are read or written one after another.
-use Rattle.std.proofs.Common.{◌≡◌, ℕ, ◌<◌, ◌≤◌, ◌⊎◌, inl, inr, List, [], ◌∷◌, ◌++◌, take, drop, length, Option, Some, None, refl, arith, rules, ap, ◌∙◌, sym, subst, append_assoc, length-append, length-drop, length-take, ◌+◌, ◌-◌}
+use Rattle.std.proofs.Common.{◌≡◌, ℕ, ◌<◌, ◌≤◌, inl, inr, List, [], ◌∷◌, ◌++◌, take, drop, length, Option, Some, None, refl, arith, ap, ◌∙◌, sym, subst, append_assoc, length-append, length-drop, length-take, ◌+◌, ◌-◌}
 use Rattle.smithy_replay.specs.Faults.{Rose}
 use Rattle.smithy_replay.specs.Streams.{Taken, TakenWhole, Grown, FrontFollows}
 use Rattle.smithy_replay.specs.declared.source.Got.TheVariants.{Bytes}

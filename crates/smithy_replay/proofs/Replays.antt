@@ -1,9 +1,9 @@
 -- What the statuses of a replay say.
-use Rattle.std.proofs.Common.{◌≡◌, ◌≢◌, ℕ, inl, ◌<◌, ◌≤◌, List, [], length, Bool, true, false, Option, Some, None, refl, arith, sym, subst, ap, ◌∙◌}
+use Rattle.std.proofs.Common.{◌≡◌, ℕ, inl, ◌<◌, List, [], length, true, false, Option, Some, None, refl, sym, subst, ap, ◌∙◌}
 use Rattle.std.specs.Prelude.{IfSome}
 use Rattle.smithy_replay.specs.Moves.{Follows}
-use Rattle.smithy_replay.specs.Replay.{IsReplay, ReplayOf, ReplayedWhole, ReplayedFront, status_of}
-use Rattle.smithy_replay.specs.Script.{IsScript, IsInput, is_within}
+use Rattle.smithy_replay.specs.Replay.{IsReplay, ReplayOf, status_of}
+use Rattle.smithy_replay.specs.Script.{IsInput, is_within}
 use Rattle.smithy_replay.specs.Status.{is_quiet}
 use Rattle.smithy_replay.specs.Streams.{TakenWhole, FrontFollows}
 use Rattle.smithy_replay.specs.declared.ending.Ending.{Ending}

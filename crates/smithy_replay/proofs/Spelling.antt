@@ -1,5 +1,5 @@
 -- The log of a script's run, and the answers that it took.
-use Rattle.std.proofs.Common.{List, [], ◌++◌, Option, Some, Result, Ok, Err, ◌≡◌, refl, sym, ap, ◌∙◌, subst}
+use Rattle.std.proofs.Common.{List, [], ◌++◌, Some, Result, Ok, Err, ◌≡◌, refl, sym, ap, ◌∙◌, subst}
 use Rattle.smithy_base.specs.declared.context.InterceptorContext.{InterceptorContext}
 use Rattle.std.specs.Prelude.{IfOk}
 use Rattle.smithy_base.specs.declared.memory.OutOfMemory.{OutOfMemory}
@@ -10,7 +10,7 @@ use Rattle.orchestrate.specs.declared.execution.InvokeError.TheVariants as invok
 use Rattle.orchestrate.specs.Handing.{HadMemory, HandedOn}
 use Rattle.orchestrate.specs.Script.{Spelled}
 use Rattle.orchestrate.specs.ScriptValue.{ScriptValue}
-use Rattle.smithy_replay.specs.Endings.{failed_ending, ending_of, stopped_ending_of}
+use Rattle.smithy_replay.specs.Endings.{ending_of, stopped_ending_of}
 use Rattle.smithy_replay.specs.declared.ending.Ending.{Ending}
 use Rattle.smithy_replay.specs.declared.script.ScriptHead.{ScriptHead}
 

@@ -1,5 +1,5 @@
 -- What one call of a source or a sink does.
-use Rattle.std.specs.Prelude.{ℕ, ◌≡◌, ◌≤◌, ◌⊎◌, List, [], ◌++◌, Option, Some, None, length, take, IfSome}
+use Rattle.std.specs.Prelude.{ℕ, ◌≡◌, ◌≤◌, ◌⊎◌, List, [], ◌++◌, Option, Some, None, take, IfSome}
 use Rattle.smithy_replay.specs.Faults.{Rose}
 use Rattle.smithy_replay.specs.declared.source.Got.{Got}
 use Rattle.smithy_replay.specs.declared.source.Got.TheVariants as gots

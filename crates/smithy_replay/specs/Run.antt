@@ -1,5 +1,5 @@
 -- What the program does for each command.
-use Rattle.std.specs.Prelude.{ℕ, ◌≡◌, List, [], Option, Some, None, IfSome}
+use Rattle.std.specs.Prelude.{ℕ, ◌≡◌, List, Option, IfSome}
 use Rattle.smithy_replay.specs.Moves.{Follows}
 use Rattle.smithy_replay.specs.Replay.{ReplayOf}
 use Rattle.smithy_replay.specs.Streams.{FrontFollows}

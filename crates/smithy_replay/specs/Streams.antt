@@ -1,5 +1,5 @@
 -- What whole reads and writes leave.
-use Rattle.std.specs.Prelude.{ℕ, ◌≡◌, List, [], ◌++◌, Option, Some, None, IfSome}
+use Rattle.std.specs.Prelude.{ℕ, ◌≡◌, List, [], ◌++◌, Option, Some, IfSome}
 use Rattle.smithy_replay.specs.Moves.{Follows}
 
 -- Of the bytes that were told to be left, these were taken, and the rest is told to be left.

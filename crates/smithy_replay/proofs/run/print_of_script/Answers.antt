@@ -1,4 +1,4 @@
-use Rattle.std.proofs.Common.{◌∙◌, sym, ap, subst, List}
+use Rattle.std.proofs.Common.{◌∙◌, ap, subst, List}
 use Rattle.run_grammar.specs.declared.answer.Entry.{Entry}
 use Rattle.orchestrate.specs.declared.script.ScriptAnswer.{ScriptAnswer}
 use Rattle.orchestrate.specs.Script.{Spelled}

@@ -1,4 +1,4 @@
-use Rattle.std.proofs.Common.{◌≡◌, ◌+◌, ◌-◌, ◌≤◌, vec_len}
+use Rattle.std.proofs.Common.{◌≡◌, ◌-◌, ◌≤◌, vec_len}
 use Rattle.smithy_replay.specs.Streams.{Taken}
 use Rattle.smithy_replay.proofs.streams.read_all.Given as goal
 

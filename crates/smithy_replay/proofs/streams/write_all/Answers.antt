@@ -1,5 +1,5 @@
 use Rattle.std.proofs.Common.{arith, [], refl}
-use Rattle.smithy_replay.proofs.Pieces.{write_step, follows_none, fail_step, end_written}
+use Rattle.smithy_replay.proofs.Pieces.{write_step, follows_none}
 use Rattle.smithy_replay.proofs.streams.write_all.Goals as goal
 
 pub loop-rest-init : goal.loop-rest-init
