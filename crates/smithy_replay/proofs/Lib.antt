@@ -5,3 +5,4 @@ pub mod Replays
 pub mod KeyCount
 pub mod ScriptAnswers
 pub mod Spelling
+pub mod Invoking

@@ -18,9 +18,9 @@ use crate::source::Source;
 use crate::status::Status;
 use crate::streams::{InputError, SinkFault, read_all, write_all};
 use crate::words::{Command, command_in};
-use orchestrate::{ScriptWorld, invoke, invoke_with_stop_point};
+use orchestrate::{Operation, ScriptWorld, invoke_with_stop_point};
 use runcheck::ReadError;
-use smithy_base::{OutOfMemory, StopPoint, Text};
+use smithy_base::{OutOfMemory, Payload, StopPoint, Text};
 use std::alloc::Global;
 use std::sync::Wait;
 use std::thread::Threads;
@@ -229,7 +229,11 @@ fn run_script(
     let input = head.input.clone()?;
     match head.stop {
         StopPoint::None => {
-            let answer = invoke(alloc, "", "", world, input, head.fuel);
+            let operation: Operation<Payload, Payload, Payload> = Operation::named(
+                Text::new(),
+                Text::new(),
+            );
+            let answer = operation.invoke(alloc, world, input, head.fuel);
             Ending::of(answer, head)
         }
         StopPoint::BeforeTransmit => {
