@@ -3,6 +3,8 @@
 
 #[cfg(test)]
 mod damaged;
+#[cfg(test)]
+mod edges;
 pub mod ending;
 pub mod memory;
 pub mod print;
