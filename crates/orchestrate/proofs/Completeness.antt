@@ -33,14 +33,14 @@ determined p fuel before log (Err Unfinished) h u = inr (u, refl)
 determined p fuel before log (Err (WrongType q)) h u = absurd u
 determined p fuel before log (Err OutOfMemory) h u = absurd h
 
-whole_and_unfinished : (p : Payload) (fuel : ℕ) (before log l m : List Entry) → log ≡ before ++ l → IsWhole stops.None (start p) l → log ≡ before ++ m → (IsWhole stops.None (start p) m → ⊥) → ⊥
-whole_and_unfinished p fuel before log l m g w h n = n (subst (λ x. IsWhole stops.None (start p) x) (append_cancel_left before l m (sym g ∙ h)) w)
+not_both : (p : Payload) (stop : StopPoint) (before log l m : List Entry) → log ≡ before ++ l → IsWhole stop (start p) l → log ≡ before ++ m → (IsWhole stop (start p) m → ⊥) → ⊥
+not_both p stop before log l m g w h n = n (subst (λ x. IsWhole stop (start p) x) (append_cancel_left before l m (sym g ∙ h)) w)
 
 same_by : (p : Payload) (fuel : ℕ) (before log : List Entry) (a b : Result Payload (InvokeError Payload)) → Determined p fuel a before log → Determined p fuel b before log → a ≡ b
 same_by p fuel before log a b (inl (l, g, x, w, e)) (inl (m, h, y, u, f)) =
     e ∙ ap (λ k. given (answer_of (standing (start p) k).context.context)) (append_cancel_left before l m (sym g ∙ h)) ∙ sym f
-same_by p fuel before log a b (inl (l, g, x, w, e)) (inr ((m, h, y, i, n), f)) = absurd (whole_and_unfinished p fuel before log l m g w h n)
-same_by p fuel before log a b (inr ((m, h, y, i, n), f)) (inl (l, g, x, w, e)) = absurd (whole_and_unfinished p fuel before log l m g w h n)
+same_by p fuel before log a b (inl (l, g, x, w, e)) (inr ((m, h, y, i, n), f)) = absurd (not_both p stops.None before log l m g w h n)
+same_by p fuel before log a b (inr ((m, h, y, i, n), f)) (inl (l, g, x, w, e)) = absurd (not_both p stops.None before log l m g w h n)
 same_by p fuel before log a b (inr (u, e)) (inr (v, f)) = e ∙ sym f
 
 pub answers_determined : (p : Payload) (fuel : ℕ) (before log : List Entry) (a b : Result Payload (InvokeError Payload)) → HadMemory a → HadMemory b →
@@ -67,9 +67,6 @@ handed p stop fuel before log (Err (Sdk error)) h (l, g, b, w, (e, f)) =
 handed p stop fuel before log (Err Unfinished) h u = inr (u, refl)
 handed p stop fuel before log (Err (WrongType q)) h u = absurd u
 handed p stop fuel before log (Err OutOfMemory) h u = absurd h
-
-not_both : (p : Payload) (stop : StopPoint) (before log l m : List Entry) → log ≡ before ++ l → IsWhole stop (start p) l → log ≡ before ++ m → (IsWhole stop (start p) m → ⊥) → ⊥
-not_both p stop before log l m g w h n = n (subst (λ x. IsWhole stop (start p) x) (append_cancel_left before l m (sym g ∙ h)) w)
 
 same_by_end : (p : Payload) (stop : StopPoint) (fuel : ℕ) (before log : List Entry) (a b : Result InterceptorContext (InvokeError Payload)) → Handed p stop fuel a before log →
     Handed p stop fuel b before log → a ≡ b

@@ -12,7 +12,10 @@ pub mod TheLaws
 pub mod CaseProofs
 pub mod Outcomes
 pub mod OutcomeWords
+pub mod RunLeaves
 pub mod OutcomeProofs
+pub mod Requests
+pub mod RequestProofs
 pub mod Watch
 pub mod Watching
 pub mod Stages

@@ -1,12 +1,8 @@
 -- At the end of a whole run without a stop point an outcome stands.
-use Rattle.std.proofs.Common.{Bool, true, false, cond, zero, suc, ℕ, Option, None, Some, is_some, List, [], ◌∷◌, ◌≡◌, ◌⊎◌, refl, sym, subst, inl, inr, arith}
-use Rattle.smithy_base.specs.declared.fault.Outcome.{Outcome}
-use Rattle.smithy_base.specs.declared.fault.Outcome.TheVariants as outcomes
+use Rattle.std.proofs.Common.{Bool, true, false, cond, zero, suc, ℕ, is_some, List, [], ◌∷◌, ◌≡◌, ◌⊎◌, refl, sym, subst, inl, inr, arith}
 use Rattle.smithy_base.specs.declared.hook.Hook.{Hook}
 use Rattle.smithy_base.specs.declared.hook.Hook.TheVariants as hooks
 use Rattle.smithy_base.specs.declared.kinds.StopPoint.TheVariants as stops
-use Rattle.smithy_base.specs.Failures.{is_failure}
-use Rattle.run_grammar.specs.declared.kind.ConfigureStage.TheVariants as stages
 use Rattle.run_grammar.specs.declared.kind.Role.{Role}
 use Rattle.run_grammar.specs.declared.kind.Role.TheVariants as roles
 use Rattle.run_grammar.specs.declared.kind.Kind.{Kind}
@@ -16,16 +12,17 @@ use Rattle.run_grammar.specs.Entry.{kind_of, pending, can_wait, is_pending}
 use Rattle.run_grammar.specs.Question.{nanos_of}
 use Rattle.run_grammar.specs.Fits.{fits}
 use Rattle.run_grammar.specs.Change.{changed}
-use Rattle.run_grammar.specs.Standing.{State, standing, start, step}
-use Rattle.run_grammar.specs.Production.{Production, Nothing, Work, ◌⨟◌, Where, Again, InAttempt, Under, Ended}
+use Rattle.run_grammar.specs.Standing.{State, standing, step}
+use Rattle.run_grammar.specs.Production.{Production, Nothing, Work, ◌⨟◌, Where, Again, InAttempt, Ended}
 use Rattle.run_grammar.specs.Words.{Word, RoundsOf}
-use Rattle.run_grammar.specs.Grammar.{answers_delay, answers_go, answers_started, answers_not_streaming, answers_read, answers_decided_yes, is_start_of, failed, delayed, went, started, not_streaming, body_read, decided_yes, decided_delay, checkpoint_stands, failure_stands, timeout_stands, hook, halted, arm, armed, opening, sending, streaming, attempt, settle, turn, round, loop, front, grant_round, grant, op, finish, configured, run}
+use Rattle.run_grammar.specs.Grammar.{answers_delay, answers_go, answers_started, answers_not_streaming, answers_read, answers_decided_yes, is_start_of, failed, delayed, went, started, not_streaming, body_read, decided_yes, decided_delay, checkpoint_stands, timeout_stands, hook, halted, arm, armed, opening, sending, streaming, attempt, settle, turn, round, loop, front, grant_round, grant, op, finish, run}
 use Rattle.run_grammar.specs.Laws.{EachFits}
 use Rattle.run_grammar.specs.Outcomes.{OutcomeStands}
 use Rattle.run_grammar.proofs.Spots.{standing-append}
 use Rattle.run_grammar.proofs.Paths.{fits_of}
-use Rattle.run_grammar.proofs.Outcomes.{Has, is_calm, is_deadline, deserialized, decided_stands, retried_stands, streamed_stands, read_stands, granted_stands, sent_stands}
-use Rattle.run_grammar.proofs.OutcomeWords.{Stood, Sound, Keeps, Gives, answered_holds, answered_once, sound_on, joined, keeps_nothing, keeps_work, keeps_then, keeps_where, gives_then, gives_after, gives_halt, gives_where, gives_in_attempt, gives_rounds, gives_under}
+use Rattle.run_grammar.proofs.Outcomes.{Has, is_calm, deserialized, decided_stands, retried_stands, streamed_stands, read_stands, granted_stands, sent_stands}
+use Rattle.run_grammar.proofs.OutcomeWords.{Stood, Sound, Keeps, Gives, answered_holds, answered_once, sound_on, joined, stood_covers, leaves_work, leaves_after, keeps_nothing, keeps_work, keeps_then, keeps_where, gives_halt, gives_in_attempt, gives_rounds}
+use Rattle.run_grammar.proofs.RunLeaves.{behind_whole, leaves_armed, leaves_run}
 
 -- ---- after the last answer of a kind
 
@@ -129,8 +126,7 @@ never_again ds s l (e, n) = cc
 -- ---- the productions
 
 gives_deserialize : Gives (Work kinds.Deserialize)
-gives_deserialize ds s l fit (inl (x, (n, v))) h = answered_holds Stood kinds.Deserialize formed ds n l s fit v
-gives_deserialize ds s l fit (inr (d, x, v)) h = absurd (cc)
+gives_deserialize = leaves_work Stood kinds.Deserialize formed
 
 after_body : (ds : List Role) (s : State) (l : List Entry) → EachFits l → Word (Where body_read (Work kinds.Deserialize) Nothing) ds Ended s l → Sound s → Bodied s → Stood (standing s l)
 after_body ds s l fit w h p =
@@ -165,8 +161,8 @@ gives_streaming = by_answer Streamed kinds.Stream (reading ⨟ hook hooks.ReadAf
 
 gives_attempt : Gives (attempt stops.None)
 gives_attempt =
-    gives_after opening (Where failed Nothing (halted (sending ∷ streaming ∷ [])))
-    (gives_halt (halted (sending ∷ streaming ∷ [])) (gives_after sending (Where failed Nothing streaming) (gives_halt streaming gives_streaming)))
+    leaves_after Stood opening (Where failed Nothing (halted (sending ∷ streaming ∷ [])))
+    (gives_halt (halted (sending ∷ streaming ∷ [])) (leaves_after Stood sending (Where failed Nothing streaming) (gives_halt streaming gives_streaming)))
 
 keeps_hook : (h : Hook) → Keeps (hook h)
 keeps_hook h = keeps_work (kinds.Hook h) refl
@@ -176,9 +172,6 @@ keeps_settle = keeps_then (hook hooks.ModifyBeforeAttemptCompletion) (hook hooks
 
 keeps_finish : Keeps finish
 keeps_finish = keeps_then (hook hooks.ModifyBeforeCompletion) (hook hooks.ReadAfterExecution) (keeps_hook hooks.ModifyBeforeCompletion) (keeps_hook hooks.ReadAfterExecution)
-
-gives_armed : (d : Role) (p q : Production) → is_deadline d ≡ true → Gives p → Keeps q → Gives (armed d p q)
-gives_armed d p q h f g = gives_after (arm d) (Where (started d) (Under d p q) p) (gives_where (started d) (Under d p q) p (gives_under d p q h f g) f)
 
 -- what follows a Start Retry, and a Decide
 abbrev waiting_again : Production
@@ -230,7 +223,7 @@ settled_decided ds s l fit (inl (a, b, e, v, w)) h =
 settled_decided ds s l fit (inr (x, w)) h = absurd (cc)
 
 gives_tried : Gives (armed roles.Attempt (InAttempt (attempt stops.None)) Nothing)
-gives_tried = gives_armed roles.Attempt (InAttempt (attempt stops.None)) Nothing refl (gives_in_attempt (attempt stops.None) gives_attempt) keeps_nothing
+gives_tried = leaves_armed Stood roles.Attempt (InAttempt (attempt stops.None)) Nothing stood_covers refl (gives_in_attempt (attempt stops.None) gives_attempt) keeps_nothing
 
 turn_decided : (ds : List Role) (s : State) (l : List Entry) → EachFits l → Word (turn stops.None) ds Ended s l → Sound s → Decided (standing s l)
 turn_decided ds s l fit (inl (a, b, e, v, w)) h =
@@ -303,55 +296,15 @@ gives_granted ds s l fit (inl (a, b, e, (n, v), w)) h =
 gives_granted ds s l fit (inr (x, w)) h = absurd (cc)
 
 gives_op : Gives (op stops.None)
-gives_op = gives_after front (Where failed Nothing (grant ⨟ Where went (loop stops.None) Nothing)) (gives_halt (grant ⨟ Where went (loop stops.None) Nothing) gives_granted)
+gives_op = leaves_after Stood front (Where failed Nothing (grant ⨟ Where went (loop stops.None) Nothing)) (gives_halt (grant ⨟ Where went (loop stops.None) Nothing) gives_granted)
 
 -- ---- the run
 
 keeps_arm : (d : Role) → is_calm (kinds.Start d) ≡ true → Keeps (arm d)
 keeps_arm d c = keeps_where (timeout_stands d) (Work (kinds.Start d)) Nothing (keeps_work (kinds.Start d) c) keeps_nothing
 
-failure_is_some : (o : Option Outcome) → is_failure o ≡ true → is_some o ≡ true
-failure_is_some None h = absurd (cc)
-failure_is_some (Some (outcomes.Failed f)) h = refl
-failure_is_some (Some (outcomes.Output p)) h = absurd (cc)
-
-failure_stood : (s : State) → failure_stands s ≡ true → Stood s
-unfolding failure_stands
-failure_stood s h = failure_is_some s.context.context.view.outcome h
-
-gives_failure : (p q : Production) → Keeps p → Gives q → Gives (Where failure_stands p q)
-gives_failure p q f g ds s l fit w h =
-    (elim (failure_stands s) as (λ b. failure_stands s ≡ b → cond b (Word p ds Ended s l) (Word q ds Ended s l) → Stood (standing s l)) [
-      | true ↦ λ e v. f ds s l fit v (failure_stood s e)
-      | false ↦ λ e v. g ds s l fit v h
-    ]) refl w
-
-abbrev configured_run : Production
-configured_run = Where failure_stands (arm roles.Operation ⨟ finish) (armed roles.Operation (op stops.None) settle ⨟ finish)
-
-gives_configured_run : Gives configured_run
-gives_configured_run =
-    gives_failure (arm roles.Operation ⨟ finish) (armed roles.Operation (op stops.None) settle ⨟ finish)
-    (keeps_then (arm roles.Operation) finish (keeps_arm roles.Operation refl) keeps_finish)
-    (gives_then (armed roles.Operation (op stops.None) settle) finish (gives_armed roles.Operation (op stops.None) settle refl gives_op keeps_settle) keeps_finish)
-
-gives_configured : (p : Production) → Gives p → Gives (configured p)
-gives_configured p g =
-    let third = hook hooks.ReadBeforeExecutionOperation ⨟ Work (kinds.Configure stages.Final) ⨟ Where failed Nothing p in
-    let second = hook hooks.ReadBeforeExecutionClient ⨟ Work (kinds.Configure stages.Operation) ⨟ Where failed Nothing third in
-    gives_after (Work (kinds.Configure stages.Client)) (Where failed Nothing second) (gives_halt second
-    (gives_after (hook hooks.ReadBeforeExecutionClient) (Work (kinds.Configure stages.Operation) ⨟ Where failed Nothing third)
-    (gives_after (Work (kinds.Configure stages.Operation)) (Where failed Nothing third) (gives_halt third
-    (gives_after (hook hooks.ReadBeforeExecutionOperation) (Work (kinds.Configure stages.Final) ⨟ Where failed Nothing p)
-    (gives_after (Work (kinds.Configure stages.Final)) (Where failed Nothing p) (gives_halt p g)))))))
-
-begins_sound : (s : State) → s.last ≡ None → Sound s
-unfolding failed
-begins_sound s e h = grind (arith, e, h)
-
 gives_run : Gives (run stops.None)
-unfolding run
-gives_run = gives_configured configured_run gives_configured_run
+gives_run = leaves_run Stood stops.None stood_covers (keeps_arm roles.Operation refl) keeps_settle keeps_finish gives_op
 
 pub outcome_stands : OutcomeStands
-outcome_stands p l w = gives_run [] (start p) l w.fitting w.run (begins_sound (start p) refl)
+outcome_stands = behind_whole Stood stops.None gives_run

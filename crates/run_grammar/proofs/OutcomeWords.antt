@@ -1,4 +1,4 @@
--- Words of the grammar, and whether an outcome stands behind them.
+-- Words of the grammar, and what holds behind them: that an outcome stands, or what one covers.
 use Rattle.std.proofs.Common.{Bool, true, false, cond, zero, suc, ℕ, List, [], ◌∷◌, ◌++◌, ◌≡◌, refl, sym, ap, ◌∙◌, subst, inl, inr, arith}
 use Rattle.run_grammar.specs.declared.kind.Role.{Role}
 use Rattle.run_grammar.specs.declared.kind.Role.TheVariants as roles
@@ -186,26 +186,106 @@ cut_stands (Under c p q) ds d i s l h f (a, b, CutBy g j, e, v, w) =
           joined Stood a b l s e (subst (λ m. Stood (standing (standing s a) m)) (sym u.1) (cut_stands p (c ∷ ds) d i s a h fit.0 (subst (λ x. Word p (c ∷ ds) x s a) (sym u.0) v)))
     ]) w
 
+-- ---- words that keep what holds, and words that leave it
+
+-- what held before a word of the production, holds behind it
+abbrev pub Carries : (State → Type 0) → Production → Type 0
+Carries P p = (ds : List Role) (s : State) (l : List Entry) → EachFits l → Word p ds Ended s l → P s → P (standing s l)
+
+-- it holds behind every word of the production
+abbrev pub Leaves : (State → Type 0) → Production → Type 0
+Leaves P p = (ds : List Role) (s : State) (l : List Entry) → EachFits l → Word p ds Ended s l → Sound s → P (standing s l)
+
+-- an outcome that stands is enough
+abbrev pub Covers : (State → Type 0) → Type 0
+Covers P = (s : State) → Stood s → P s
+
+carries_nothing : (P : State → Type 0) → Carries P Nothing
+carries_nothing P ds s l f (e, n) h = subst (λ m. P (standing s m)) (sym n) h
+
+pub carries_then : (P : State → Type 0) (p q : Production) → Carries P p → Carries P q → Carries P (p ⨟ q)
+carries_then P p q f g ds s l fit (inl (a, b, e, v, w)) h =
+    let x = fits_of a b (subst EachFits e fit) in
+    joined P a b l s e (g ds (standing s a) b x.1 w (f ds s a x.0 v h))
+carries_then P p q f g ds s l fit (inr (x, w)) h = absurd (cc)
+
+pub leaves_work : (P : State → Type 0) (k : Kind) → ((s : State) (e : Entry) → kind_of e ≡ k → pending e ≡ false → fits (kind_of e) e.answer ≡ true → P (step s e)) → Leaves P (Work k)
+leaves_work P k q ds s l fit (inl (x, (n, v))) h = answered_holds P k q ds n l s fit v
+leaves_work P k q ds s l fit (inr (d, x, v)) h = absurd (cc)
+
+pub leaves_then : (P : State → Type 0) (p q : Production) → Leaves P p → Carries P q → Leaves P (p ⨟ q)
+leaves_then P p q f g ds s l fit (inl (a, b, e, v, w)) h =
+    let x = fits_of a b (subst EachFits e fit) in
+    joined P a b l s e (g ds (standing s a) b x.1 w (f ds s a x.0 v h))
+leaves_then P p q f g ds s l fit (inr (x, w)) h = absurd (cc)
+
+-- what is behind a production leaves it, whatever that does
+pub leaves_after : (P : State → Type 0) (p q : Production) → Leaves P q → Leaves P (p ⨟ q)
+leaves_after P p q g ds s l fit (inl (a, b, e, v, w)) h =
+    let x = fits_of a b (subst EachFits e fit) in
+    joined P a b l s e (g ds (standing s a) b x.1 w (sound_on a s x.0 h))
+leaves_after P p q g ds s l fit (inr (x, w)) h = absurd (cc)
+
+pub leaves_where : (P : State → Type 0) (t : State → Bool) (p q : Production) → Leaves P p → Leaves P q → Leaves P (Where t p q)
+leaves_where P t p q f g ds s l fit w h =
+    (elim (t s) as (λ b. cond b (Word p ds Ended s l) (Word q ds Ended s l) → P (standing s l)) [
+      | true ↦ λ v. f ds s l fit v h
+      | false ↦ λ v. g ds s l fit v h
+    ]) w
+
+-- where the test holds only if it holds already
+pub leaves_unless : (P : State → Type 0) (t : State → Bool) (p q : Production) → ((s : State) → Sound s → t s ≡ true → P s) → Carries P p → Leaves P q → Leaves P (Where t p q)
+leaves_unless P t p q n f g ds s l fit w h =
+    (elim (t s) as (λ b. t s ≡ b → cond b (Word p ds Ended s l) (Word q ds Ended s l) → P (standing s l)) [
+      | true ↦ λ e v. f ds s l fit v (n s h e)
+      | false ↦ λ e v. g ds s l fit v h
+    ]) refl w
+
+pub leaves_halt : (P : State → Type 0) (q : Production) → Covers P → Leaves P q → Leaves P (Where failed Nothing q)
+leaves_halt P q c g = leaves_unless P failed Nothing q (λ s h e. c s (h e)) (carries_nothing P) g
+
+is_deadline_of : (c d : Role) → is_deadline c ≡ true → same_role c d ≡ true → is_deadline d ≡ true
+is_deadline_of roles.Operation roles.Operation h e = refl
+is_deadline_of roles.Attempt roles.Attempt h e = refl
+is_deadline_of _ _ h e = absurd (cc)
+
+pub leaves_under : (P : State → Type 0) (c : Role) (p q : Production) → Covers P → is_deadline c ≡ true → Leaves P p → Carries P q → Leaves P (Under c p q)
+leaves_under P c p q o i f g ds s l fit (a, b, Ended, e, v, (x, n)) h =
+    let y = fits_of a b (subst EachFits e fit) in
+    joined P a b l s e (subst (λ m. P (standing (standing s a) m)) (sym n) (f (c ∷ ds) s a y.0 v h))
+leaves_under P c p q o i f g ds s l fit (a, b, Further, e, v, (x, n)) h = absurd (cc)
+leaves_under P c p q o i f g ds s l fit (a, b, CutBy d j, e, v, w) h =
+    let y = fits_of a b (subst EachFits e fit) in
+    (elim (same_role c d) as (λ t. same_role c d ≡ t → cond t (cond j (Word q ds Ended (standing s a) b) ((Ended ≡ Ended) × (b ≡ []))) ((Ended ≡ CutBy d j) × (b ≡ [])) → P (standing s l)) [
+      | true ↦ λ t.
+          let k = o (standing s a) (cut_stands p (c ∷ ds) d j s a (is_deadline_of c d i t) y.0 v) in
+          elim j as (λ z. cond z (Word q ds Ended (standing s a) b) ((Ended ≡ Ended) × (b ≡ [])) → P (standing s l)) [
+            | true ↦ λ u. joined P a b l s e (g ds (standing s a) b y.1 u k)
+            | false ↦ λ u. joined P a b l s e (subst (λ m. P (standing (standing s a) m)) (sym u.1) k)
+          ]
+      | false ↦ λ t u. absurd (let z = u.0 in cc)
+    ]) refl w
+
 -- ---- words that keep an outcome, and words that leave one
 
 abbrev pub Keeps : Production → Type 0
-Keeps p = (ds : List Role) (s : State) (l : List Entry) → EachFits l → Word p ds Ended s l → Stood s → Stood (standing s l)
+Keeps p = Carries Stood p
 
 abbrev pub Gives : Production → Type 0
-Gives p = (ds : List Role) (s : State) (l : List Entry) → EachFits l → Word p ds Ended s l → Sound s → Stood (standing s l)
+Gives p = Leaves Stood p
+
+pub stood_covers : Covers Stood
+stood_covers s h = h
 
 pub keeps_nothing : Keeps Nothing
-keeps_nothing ds s l f (e, n) h = subst (λ m. Stood (standing s m)) (sym n) h
+keeps_nothing = carries_nothing Stood
 
 pub keeps_work : (k : Kind) → is_calm k ≡ true → Keeps (Work k)
 keeps_work k c ds s l f (inl (e, (n, w))) h = worked_stands k ds n l s c f w h
 keeps_work k c ds s l f (inr (d, e, w)) h = absurd (cc)
 
 pub keeps_then : (p q : Production) → Keeps p → Keeps q → Keeps (p ⨟ q)
-keeps_then p q f g ds s l fit (inl (a, b, e, v, w)) h =
-    let x = fits_of a b (subst EachFits e fit) in
-    joined Stood a b l s e (g ds (standing s a) b x.1 w (f ds s a x.0 v h))
-keeps_then p q f g ds s l fit (inr (x, w)) h = absurd (cc)
+keeps_then p q f g = carries_then Stood p q f g
 
 pub keeps_where : (t : State → Bool) (p q : Production) → Keeps p → Keeps q → Keeps (Where t p q)
 keeps_where t p q f g ds s l fit w h =
@@ -214,32 +294,8 @@ keeps_where t p q f g ds s l fit w h =
       | false ↦ λ v. g ds s l fit v h
     ]) w
 
-pub gives_then : (p q : Production) → Gives p → Keeps q → Gives (p ⨟ q)
-gives_then p q f g ds s l fit (inl (a, b, e, v, w)) h =
-    let x = fits_of a b (subst EachFits e fit) in
-    joined Stood a b l s e (g ds (standing s a) b x.1 w (f ds s a x.0 v h))
-gives_then p q f g ds s l fit (inr (x, w)) h = absurd (cc)
-
--- what is behind a production leaves an outcome, whatever that does
-pub gives_after : (p q : Production) → Gives q → Gives (p ⨟ q)
-gives_after p q g ds s l fit (inl (a, b, e, v, w)) h =
-    let x = fits_of a b (subst EachFits e fit) in
-    joined Stood a b l s e (g ds (standing s a) b x.1 w (sound_on a s x.0 h))
-gives_after p q g ds s l fit (inr (x, w)) h = absurd (cc)
-
 pub gives_halt : (q : Production) → Gives q → Gives (Where failed Nothing q)
-gives_halt q g ds s l fit w h =
-    (elim (failed s) as (λ b. failed s ≡ b → cond b (Word Nothing ds Ended s l) (Word q ds Ended s l) → Stood (standing s l)) [
-      | true ↦ λ e v. keeps_nothing ds s l fit v (h e)
-      | false ↦ λ e v. g ds s l fit v h
-    ]) refl w
-
-pub gives_where : (t : State → Bool) (p q : Production) → Gives p → Gives q → Gives (Where t p q)
-gives_where t p q f g ds s l fit w h =
-    (elim (t s) as (λ b. cond b (Word p ds Ended s l) (Word q ds Ended s l) → Stood (standing s l)) [
-      | true ↦ λ v. f ds s l fit v h
-      | false ↦ λ v. g ds s l fit v h
-    ]) w
+gives_halt q g = leaves_halt Stood q stood_covers g
 
 marked_ended : (y : End) → Ended ≡ marked y → y ≡ Ended
 marked_ended Ended e = refl
@@ -258,25 +314,3 @@ gives_rounds_of p q f g ds (suc n) s l fit (a, b, e, v, w) h =
 
 pub gives_rounds : (p q : Production) → Gives p → Gives q → Gives (Rounds p q)
 gives_rounds p q f g ds s l fit (n, w) h = gives_rounds_of p q f g ds n s l fit w h
-
-is_deadline_of : (c d : Role) → is_deadline c ≡ true → same_role c d ≡ true → is_deadline d ≡ true
-is_deadline_of roles.Operation roles.Operation h e = refl
-is_deadline_of roles.Attempt roles.Attempt h e = refl
-is_deadline_of _ _ h e = absurd (cc)
-
-pub gives_under : (c : Role) (p q : Production) → is_deadline c ≡ true → Gives p → Keeps q → Gives (Under c p q)
-gives_under c p q i f g ds s l fit (a, b, Ended, e, v, (x, n)) h =
-    let y = fits_of a b (subst EachFits e fit) in
-    joined Stood a b l s e (subst (λ m. Stood (standing (standing s a) m)) (sym n) (f (c ∷ ds) s a y.0 v h))
-gives_under c p q i f g ds s l fit (a, b, Further, e, v, (x, n)) h = absurd (cc)
-gives_under c p q i f g ds s l fit (a, b, CutBy d j, e, v, w) h =
-    let y = fits_of a b (subst EachFits e fit) in
-    (elim (same_role c d) as (λ t. same_role c d ≡ t → cond t (cond j (Word q ds Ended (standing s a) b) ((Ended ≡ Ended) × (b ≡ []))) ((Ended ≡ CutBy d j) × (b ≡ [])) → Stood (standing s l)) [
-      | true ↦ λ t.
-          let k = cut_stands p (c ∷ ds) d j s a (is_deadline_of c d i t) y.0 v in
-          elim j as (λ z. cond z (Word q ds Ended (standing s a) b) ((Ended ≡ Ended) × (b ≡ [])) → Stood (standing s l)) [
-            | true ↦ λ u. joined Stood a b l s e (g ds (standing s a) b y.1 u k)
-            | false ↦ λ u. joined Stood a b l s e (subst (λ m. Stood (standing (standing s a) m)) (sym u.1) k)
-          ]
-      | false ↦ λ t u. absurd (let z = u.0 in cc)
-    ]) refl w

@@ -39,9 +39,9 @@ is_calm kinds.Decide = false
 is_calm (kinds.Start roles.Retry) = false
 is_calm _ = true
 
-has_either : (b : Bool) (s t : Standing) → Has s → Has t → Has (cond b s t)
-has_either true s t h g = h
-has_either false s t h g = g
+pub either_way : (P : Standing → Type 0) (b : Bool) (s t : Standing) → P s → P t → P (cond b s t)
+either_way P true s t h g = h
+either_way P false s t h g = g
 
 -- ---- what fails leaves a failure
 
@@ -211,10 +211,10 @@ kept_configure w s _ f h = absurd (cc)
 
 kept_written : (h : Hook) (s : Standing) (c : Option Change) → Has s → Has (written_by h s c)
 kept_written h s None g = g
-kept_written h s (Some (changes.Input p)) g = has_either (writes_input h) (with_input s p) s g g
-kept_written h s (Some (changes.Request r)) g = has_either (writes_request h) (with_request s r) s g g
-kept_written h s (Some (changes.Response r)) g = has_either (writes_response h) (with_response s r) s g g
-kept_written h s (Some (changes.Outcome o)) g = has_either (writes_outcome h) (with_outcome s o) s refl g
+kept_written h s (Some (changes.Input p)) g = either_way Has (writes_input h) (with_input s p) s g g
+kept_written h s (Some (changes.Request r)) g = either_way Has (writes_request h) (with_request s r) s g g
+kept_written h s (Some (changes.Response r)) g = either_way Has (writes_response h) (with_response s r) s g g
+kept_written h s (Some (changes.Outcome o)) g = either_way Has (writes_outcome h) (with_outcome s o) s refl g
 
 kept_unfailed : (h : Hook) (s : Standing) (t : Option (List ℕ)) → Has s → Has (hook_failed h s t)
 kept_unfailed h s None g = g
@@ -227,7 +227,7 @@ kept_hook h s _ f g = absurd (cc)
 kept_serialize : (s : Standing) (a : Answer) → fits_request a ≡ true → Has s → Has (on_serialize s a)
 kept_serialize s (answers.Request r) f h =
     let t = with_request (serializing s) r in
-    has_either (loads_body t.context.view.settings) t (with_phase t phases.BeforeTransmit) h h
+    either_way Has (loads_body t.context.view.settings) t (with_phase t phases.BeforeTransmit) h h
 kept_serialize s (answers.Failed t) f h = refl
 kept_serialize s answers.Absent f h = refl
 kept_serialize s _ f h = absurd (cc)

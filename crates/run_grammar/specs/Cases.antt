@@ -1,4 +1,4 @@
--- A run in four cases.
+-- A run in four cases (orchestrator.rs, `invoke_with_stop_point`).
 use Rattle.std.specs.Prelude.{Bool, true, false, List, [], ◌∷◌, ◌++◌, ◌≡◌, ◌⊎◌, cond}
 use Rattle.run_grammar.specs.declared.kind.Role.{Role}
 use Rattle.run_grammar.specs.declared.kind.Role.TheVariants.{Operation}

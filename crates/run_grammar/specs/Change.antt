@@ -1,4 +1,6 @@
--- How an entry changes what stands.
+-- How an entry changes what stands. A name in brackets is the function of the Rust crate's
+-- orchestrator.rs from which the rule below it comes, where no other file is named; context.rs is that of
+-- aws-smithy-runtime-api's interceptors.
 use Rattle.std.specs.Prelude.{Bool, false, ℕ, ◌+◌, ◌-◌, ◌^◌, min, Option, None, Some, List, ◌++◌, codes, cond}
 use Rattle.std.specs.Fmt.{decimal}
 use Rattle.smithy_base.specs.declared.config.TimeoutConfig.{TimeoutConfig}
@@ -62,7 +64,8 @@ is_load_body _ = false
 abbrev pub loads_body : StandingLayers → Bool
 loads_body s = is_load_body (loaded s keys.LoadBody)
 
--- how long the sleep of a role is: the standing timeout of that name, or the standing delay
+-- how long the sleep of a role is: the standing timeout of that name (timeout.rs, `MaybeTimeoutConfig::new`),
+-- or the standing delay
 abbrev pub nanos_for : Role → Standing → Option ℕ
 nanos_for roles.Operation s = operation_timeout (timeouts s.context.view.settings)
 nanos_for roles.Attempt s = attempt_timeout (timeouts s.context.view.settings)
@@ -105,7 +108,7 @@ absent_text = codes "absent"
 abbrev pub absent : Standing → Standing
 absent s = fails_with s faults.Other absent_text
 
--- failed as an untyped failure, or absent
+-- failed as an untyped failure (`OrchestratorError::other`), or absent
 abbrev pub or_fails : Standing → Answer → Standing
 or_fails s (answers.Failed t) = fails_with s faults.Other t
 or_fails s answers.Absent = absent s
@@ -113,6 +116,7 @@ or_fails s _ = s
 
 -- ---- by kind
 
+-- (`apply_configuration`)
 abbrev pub configured_by : ConfigureStage → Standing → List LayerEntry → Standing
 configured_by stages.Client s l = with_settings s (with_layer s.context.view.settings l)
 configured_by stages.Operation s l = with_settings s (with_layer s.context.view.settings l)
@@ -143,7 +147,7 @@ hook_failed h s (Some t) = fails_with s (faults.Interceptor h) t
 abbrev pub merged_into : Standing → List LayerEntry → Standing
 merged_into s l = with_settings s (with_merged s.context.view.settings l)
 
--- the allowed change, then the layer, then the failure
+-- the allowed change, then the layer, then the failure (interceptors.rs)
 abbrev pub hooked_by : Hook → Standing → HookAnswer → Standing
 hooked_by h s a = hook_failed h (merged_into (written_by h s a.change) a.settings) a.failure
 
@@ -151,10 +155,11 @@ abbrev pub on_hook : Hook → Standing → Answer → Standing
 on_hook h s (answers.Hooked a) = hooked_by h s a
 on_hook h s _ = s
 
--- the input is gone, and the phase is Serialization
+-- the input is gone, and the phase is Serialization (`try_op`; context.rs, `enter_serialization_phase`)
 abbrev pub serializing : Standing → Standing
 serializing s = with_phase (with_view s (record s.context.view { input = None })) phases.Serialization
 
+-- (`try_op`; context.rs, `enter_before_transmit_phase`)
 abbrev pub unless_loading : Standing → Standing
 unless_loading s = cond (loads_body s.context.view.settings) s (with_phase s phases.BeforeTransmit)
 
@@ -166,6 +171,7 @@ abbrev pub with_body : Option HttpRequest → List ℕ → Option HttpRequest
 with_body None b = None
 with_body (Some r) b = Some (record r { body = bodies.Bytes b })
 
+-- (`try_op`, the load of the request's body)
 abbrev pub on_load : Standing → Answer → Standing
 on_load s (answers.Loaded b) = with_phase (with_view s (record s.context.view { request = with_body s.context.view.request b })) phases.BeforeTransmit
 on_load s a = or_fails s a
@@ -173,7 +179,7 @@ on_load s a = or_fails s a
 abbrev pub refused_text : List ℕ
 refused_text = codes "the retry strategy indicates that an initial request shouldn't be made, but it didn't specify why"
 
--- the first attempt begins
+-- the first attempt begins (`try_op`; context.rs, `save_checkpoint`)
 abbrev pub granted : Standing → Standing
 granted s = let c = checkpointed s.context in with_context s (record c { view = record c.view { attempt = 1 } })
 
@@ -184,6 +190,7 @@ on_initial s (answers.Delay n) = with_delay s n
 on_initial s a = or_fails s a
 
 -- a further attempt begins: the checkpoint's request stands again, and what was chosen is gone
+-- (`try_op`; context.rs, `rewind`)
 abbrev pub next_attempt : ℕ → ℕ
 next_attempt n = min (n + 1) (2 ^ 64 - 1)
 
@@ -209,6 +216,7 @@ abbrev pub number_or_zero : Option ℕ → ℕ
 number_or_zero None = 0
 number_or_zero (Some n) = n
 
+-- (timeout.rs, `TimeoutError`)
 abbrev pub operation_timeout_text : ℕ → List ℕ
 operation_timeout_text n = codes "operation timeout (all attempts including retries) occurred after " ++ decimal n ++ codes " ns"
 
@@ -220,6 +228,7 @@ on_wait roles.Operation s answers.Ready = fails_with s faults.Timeout (operation
 on_wait roles.Attempt s answers.Ready = fails_with s faults.Timeout (attempt_timeout_text (number_or_zero s.attempt_deadline))
 on_wait _ s _ = s
 
+-- (`try_attempt`; orchestrator/auth.rs, `resolve_identity`)
 abbrev pub chosen_by : Standing → Chosen → Standing
 chosen_by s c = merged_into (record s { scheme = Some c.scheme; identity = Some c.identity; endpoint = c.endpoint }) c.settings
 
@@ -227,21 +236,24 @@ abbrev pub on_choose : Standing → Answer → Standing
 on_choose s (answers.Chosen c) = chosen_by s c
 on_choose s a = or_fails s a
 
+-- (orchestrator/endpoints.rs, `orchestrate_endpoint`)
 abbrev pub on_endpoint : Standing → Answer → Standing
 on_endpoint s (answers.Endpoint e) = record s { endpoint = Some e }
 on_endpoint s a = or_fails s a
 
+-- (orchestrator/endpoints.rs, `apply_endpoint`; orchestrator/auth.rs, `sign_request`)
 abbrev pub on_request : Standing → Answer → Standing
 on_request s (answers.Request r) = with_request s r
 on_request s a = or_fails s a
 
+-- (`try_attempt`, the transmission)
 abbrev pub on_transmit : Standing → Answer → Standing
 on_transmit s answers.Pending = s
 on_transmit s (answers.Response r) = with_phase (with_response s r) phases.BeforeDeserialization
 on_transmit s (answers.ConnectorFailed k t) = fails_with (with_phase s phases.Transmit) (faults.Connector k) t
 on_transmit s a = or_fails (with_phase s phases.Transmit) a
 
--- the outcome of the response stands
+-- the outcome of the response stands (`try_attempt`, the deserialization)
 abbrev pub settled : Standing → Outcome → Standing
 settled s o = with_phase (with_outcome s o) phases.AfterDeserialization
 
@@ -257,6 +269,7 @@ abbrev pub with_response_body : Option HttpResponse → List ℕ → Option Http
 with_response_body None b = None
 with_response_body (Some r) b = Some (record r { body = bodies.Bytes b })
 
+-- (`try_attempt`; orchestrator/http.rs, `read_body`)
 abbrev pub on_body : Standing → Answer → Standing
 on_body s (answers.Read b) = with_view s (record s.context.view { response = with_response_body s.context.view.response b })
 on_body s (answers.Failed t) = with_phase (fails_with s faults.Response t) phases.AfterDeserialization
@@ -268,6 +281,7 @@ on_deserialize s (answers.Outcome o) = settled s o
 on_deserialize s answers.Absent = settled_absent s
 on_deserialize s _ = s
 
+-- (`try_op`, `ShouldAttempt`)
 abbrev pub decided_on : Standing → Choice → Standing
 decided_on s choices.Yes = rewound s
 decided_on s choices.No = s

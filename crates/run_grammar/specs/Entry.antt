@@ -56,7 +56,7 @@ is_ready _ = false
 unfoldable pub ready : Entry → Bool
 ready e = is_ready e.answer
 
--- a deadline or a long poll may be absent
+-- a deadline or a long poll may be absent (timeout.rs, `MaybeTimeoutConfig::new`; orchestrator.rs, `try_op`)
 abbrev pub may_be_absent : Kind → Bool
 may_be_absent (kinds.Start roles.Operation) = true
 may_be_absent (kinds.Start roles.Attempt) = true
@@ -76,12 +76,12 @@ abbrev pub writes_failure : Option Change → Bool
 writes_failure (Some (changes.Outcome o)) = is_failed o
 writes_failure _ = false
 
--- a hook fails by its text; a completion hook also by the failure that it writes
+-- a hook fails by its text; a completion hook also by the failure that it writes (interceptors.rs)
 abbrev pub hook_fails : Kind → HookAnswer → Bool
 hook_fails (kinds.Hook h) a = cond (is_some a.failure) true (cond (writes_outcome h) (writes_failure a.change) false)
 hook_fails _ a = is_some a.failure
 
--- the entry sets a failure
+-- the entry sets a failure (orchestrator.rs, `halt_on_err!` and `continue_on_err!`)
 abbrev pub sets_failure : Kind → Answer → Bool
 sets_failure k answers.Absent = cond (may_be_absent k) false true
 sets_failure k (answers.Failed text) = true
@@ -95,7 +95,7 @@ sets_failure k _ = false
 unfoldable pub fails : Entry → Bool
 fails e = sets_failure (kind_of e) e.answer
 
--- the kind that gives up a kind that is pending
+-- the kind that gives up a kind that is pending (timeout.rs, where the cut future is dropped)
 abbrev pub abandon_of : Kind → Kind
 abandon_of kinds.Load = kinds.Abandon abandoned.Load
 abandon_of kinds.Choose = kinds.Abandon abandoned.Choose

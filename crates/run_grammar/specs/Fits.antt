@@ -1,4 +1,6 @@
--- Which answers fit which kind of question. NoMemory fits none.
+-- Which answers fit which kind of question: what the component that it asks may give back (the traits of
+-- aws-smithy-runtime-api: `Intercept`, `SerializeRequest`, `DeserializeResponse`, `ResolveIdentity`,
+-- `ResolveEndpoint`, `Sign`, `HttpConnector`, `RetryStrategy`, `AsyncSleep`). NoMemory fits none.
 use Rattle.std.specs.Prelude.{Bool, true, false}
 use Rattle.run_grammar.specs.declared.kind.Kind.{Kind}
 use Rattle.run_grammar.specs.declared.kind.Kind.TheVariants as kinds

@@ -1,4 +1,5 @@
--- The phase grammar of a run.
+-- The phase grammar of a run. A name in brackets is the function or macro of the Rust crate's
+-- orchestrator.rs from which the rule below it comes, where no other file is named.
 use Rattle.std.specs.Prelude.{Bool, true, false, Option, None, Some, is_some, cond, List, [], ◌∷◌}
 use Rattle.run_grammar.specs.declared.kind.Role.{Role}
 use Rattle.smithy_base.specs.declared.hook.Hook.{Hook}
@@ -100,19 +101,22 @@ timeout_stands r s = is_some (nanos_for r s.context)
 abbrev pub hook : Hook → Production
 hook h = Work (kinds.Hook h)
 
--- a halted word of the steps
+-- a halted word of the steps (`halt_on_err!`)
 abbrev pub halted : List Production → Production
 halted [] = Nothing
 halted (p ∷ []) = p
 halted (p ∷ q ∷ ps) = p ⨟ Where failed Nothing (halted (q ∷ ps))
 
+-- (timeout.rs, `MaybeTimeoutConfig::new`)
 abbrev pub arm : Role → Production
 arm d = Where (timeout_stands d) (Work (kinds.Start d)) Nothing
 
 -- p with d armed where its kinds.Start was answered Started; where d cuts p inside an attempt, after follows
+-- (timeout.rs, `MaybeTimeoutFuture::poll`; `invoke_with_stop_point`, its `attempt_in_flight`)
 abbrev pub armed : Role → Production → Production → Production
 armed d p after = arm d ⨟ Where (started d) (Under d p after) p
 
+-- (`try_attempt`, up to its stop point; orchestrator/auth.rs, `resolve_identity`; orchestrator/endpoints.rs, `orchestrate_endpoint`)
 abbrev pub opening : Production
 opening = halted (
     hook hooks.ReadBeforeAttempt
@@ -127,6 +131,7 @@ opening = halted (
     ∷ hook hooks.ReadBeforeTransmit
     ∷ [])
 
+-- (`try_attempt`, from its stop point to the deserialization)
 abbrev pub sending : Production
 sending = halted (
     Work kinds.Transmit
@@ -135,22 +140,27 @@ sending = halted (
     ∷ hook hooks.ReadBeforeDeserialization
     ∷ [])
 
+-- (`try_attempt`, the deserialization; orchestrator/http.rs, `read_body`)
 abbrev pub streaming : Production
 streaming =
     Work kinds.Stream
     ⨟ Where not_streaming (Work kinds.Body ⨟ Where body_read (Work kinds.Deserialize) Nothing) Nothing
     ⨟ hook hooks.ReadAfterDeserialization
 
+-- (`try_attempt`)
 abbrev pub attempt : StopPoint → Production
 attempt stops.None = halted (opening ∷ sending ∷ streaming ∷ [])
 attempt stops.BeforeTransmit = opening
 
+-- (`finally_attempt`, whose hooks `continue_on_err!` runs)
 abbrev pub settle : Production
 settle = hook hooks.ModifyBeforeAttemptCompletion ⨟ hook hooks.ReadAfterAttempt
 
+-- (`try_op`, one turn of its loop of attempts, up to `should_attempt_retry`)
 abbrev pub turn : StopPoint → Production
 turn stop = armed roles.Attempt (InAttempt (attempt stop)) Nothing ⨟ settle ⨟ Work kinds.Decide
 
+-- (`try_op`, what a turn does by `ShouldAttempt`, and the rewind at the next one's start)
 abbrev pub round : StopPoint → Production
 round stop =
     turn stop
@@ -159,9 +169,11 @@ round stop =
     (Work (kinds.Start roles.Retry) ⨟ Where (started roles.Retry) (Where checkpoint_stands (Work (kinds.Wait roles.Retry) ⨟ Again) Nothing) Nothing)
     Nothing)
 
+-- (`try_op`, its loop of attempts)
 abbrev pub loop : StopPoint → Production
 loop stop = Rounds (round stop) (round stop)
 
+-- (`try_op`, up to the first send token)
 abbrev pub front : Production
 front = halted (
     hook hooks.ModifyBeforeSerialization
@@ -172,24 +184,28 @@ front = halted (
     ∷ hook hooks.ModifyBeforeRetryLoop
     ∷ [])
 
+-- (`try_op`, its loop by `should_attempt_initial_request`)
 abbrev pub grant_round : Production
 grant_round = Work kinds.Initial ⨟ Where delayed (Work (kinds.Start roles.Send) ⨟ Where (started roles.Send) (Work (kinds.Wait roles.Send) ⨟ Again) Nothing) Nothing
 
 abbrev pub grant : Production
 grant = Rounds grant_round grant_round
 
+-- (`try_op`)
 abbrev pub op : StopPoint → Production
 op stop = front ⨟ Where failed Nothing (grant ⨟ Where went (loop stop) Nothing)
 
+-- (`finally_op`, whose hooks `continue_on_err!` runs)
 abbrev pub finish : Production
 finish = hook hooks.ModifyBeforeCompletion ⨟ hook hooks.ReadAfterExecution
 
--- Config, and then p where each kinds.Configure was answered Layer
+-- Config, and then p where each kinds.Configure was answered Layer (`apply_configuration`)
 abbrev pub configured : Production → Production
 configured p =
     Work (kinds.Configure stages.Client) ⨟ Where failed Nothing
     (hook hooks.ReadBeforeExecutionClient ⨟ Work (kinds.Configure stages.Operation) ⨟ Where failed Nothing
     (hook hooks.ReadBeforeExecutionOperation ⨟ Work (kinds.Configure stages.Final) ⨟ Where failed Nothing p))
 
+-- (`invoke_with_stop_point`)
 unfoldable pub run : StopPoint → Production
 run stop = configured (Where failure_stands (arm roles.Operation ⨟ finish) (armed roles.Operation (op stop) settle ⨟ finish))

@@ -12,7 +12,7 @@ use Rattle.run_grammar.specs.Question.{nanos_of}
 use Rattle.run_grammar.specs.Entry.{kind_of}
 use Rattle.run_grammar.specs.Change.{changed, nanos_for}
 
--- at a run's start the input stands, and nothing else
+-- at a run's start the input stands, and nothing else (orchestrator.rs, `invoke_with_stop_point`: `InterceptorContext::new`)
 abbrev pub starting : Payload → Standing
 starting p = record { context = opened p; scheme = None; identity = None; endpoint = None; delay = None; operation_deadline = None; attempt_deadline = None }
 
@@ -36,7 +36,7 @@ abbrev pub standing : State → List Entry → State
 standing s [] = s
 standing s (e ∷ l) = standing (step s e) l
 
--- the question of this kind, with the parts that stand
+-- the question of this kind, with the parts that stand: what orchestrator.rs hands the component that it calls there
 abbrev pub asks : Kind → Standing → Question
 asks (kinds.Configure stage) s = questions.Configure stage s.context.view.settings
 asks (kinds.Hook h) s = questions.Hook h s.context.view

@@ -41,7 +41,7 @@ abbrev pub CutOnce : Kind → Role → List Role → List Entry → Type 0
 CutOnce k d ds [] = ⊥
 CutOnce k d ds (e ∷ l) = ((kind_of e) ≡ k) × (pending e ≡ true) × Struck k d ds l
 
--- Work(k, ds) and Cut(k, d, ds)
+-- Work(k, ds) and Cut(k, d, ds) (timeout.rs, `MaybeTimeoutFuture::poll`)
 abbrev pub WorkOf : Kind → List Role → List Entry → Type 0
 WorkOf k ds l = (n : ℕ) × AfterIdles k ds (Answered k) n l
 

@@ -1,4 +1,5 @@
--- Which part of the run a hook may write.
+-- Which part of the run a hook may write (the contexts that aws-smithy-runtime-api's `Intercept` hands its
+-- methods).
 use Rattle.std.specs.Prelude.{Bool, true, false}
 use Rattle.smithy_base.specs.declared.hook.Hook.{Hook}
 use Rattle.smithy_base.specs.declared.hook.Hook.TheVariants.{ModifyBeforeSerialization, ModifyBeforeRetryLoop, ModifyBeforeSigning, ModifyBeforeTransmit, ModifyBeforeDeserialization, ModifyBeforeAttemptCompletion, ModifyBeforeCompletion}

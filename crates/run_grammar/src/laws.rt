@@ -7,7 +7,7 @@ ghost use Rattle.run_grammar.specs.Grammar.{run};
 ghost use Rattle.run_grammar.specs.Machine.{Accepts, begin};
 ghost use Rattle.run_grammar.specs.Cases.{RunCases};
 ghost use Rattle.run_grammar.specs.Laws.{GoesOn, IsRun, NoPrefix, OneQuestion};
-ghost use Rattle.run_grammar.specs.Outcomes.{OutcomeStands};
+ghost use Rattle.run_grammar.specs.Outcomes.{OutcomeStands, RequestOrOutcomeStands};
 ghost use Rattle.run_grammar.specs.Attempts.{AttemptsComplete};
 ghost use Rattle.run_grammar.specs.Breaks.{NoLateQuestion, NoMissingFinalizers, NoOpenAttempt};
 ghost use Rattle.run_grammar.specs.Finals.{FinalizersOnce};
@@ -42,6 +42,11 @@ pub fn a_begun_list_goes_on()
 /// At the end of a whole run without a stop point an output or a failure stands.
 pub fn an_outcome_stands()
     ensures { OutcomeStands }
+{}
+
+/// At the end of a whole run, to its stop point too, a request stands, or an output or a failure.
+pub fn a_request_or_an_outcome_stands()
+    ensures { RequestOrOutcomeStands }
 {}
 
 /// In a whole list no completion hook of an attempt comes before the first attempt; and from each
