@@ -1,8 +1,8 @@
 -- What the registry's calls do to what it means.
 use Rattle.std.proofs.Common.{◌≡◌, ◌∙◌, ap, refl, sym, subst, ℕ, suc, ◌<◌, ◌≤◌, ◌-◌, ◌+◌, true, false, if◌then◌else◌, List, [], ◌∷◌, ◌++◌, ◌≢◌, length, length-append, arith, Option, Some, None, nat_lt, nat_le}
 use Rattle.std.specs.Prelude.{slice_set, slice_get, slice_index_or, IfSome, IsTrue, MatchOption, is_some}
-use Rattle.std.specs.Option.{option_map_or}
-use Rattle.std.proofs.lemmas.Bool.{leb-true}
+use Rattle.std.specs.Option.{option_map_or, option_to_list, IfNone}
+use Rattle.std.proofs.lemmas.Bool.{leb-true, lt-ltb}
 use Rattle.std.proofs.lemmas.Bool.Decides.{nat_tests}
 use Rattle.std.specs.Cmp.{and_equiv, on_equiv, bool_eq_equiv}
 use Rattle.std.specs.Cmp.Lexicographic.{nat_list_eq_equiv}
@@ -10,13 +10,14 @@ use Rattle.std.specs.Map.{lookup}
 use Rattle.smithy_base.specs.Partition.{same_partition}
 use Rattle.smithy_base.specs.declared.partition.RetryPartition.{RetryPartition}
 use Rattle.retry_quota.proofs.TableLemmas.{lookup-new, lookup-other}
+use Rattle.std.proofs.lemmas.Map.Entries.{All-lookup}
 use Rattle.std.proofs.lemmas.Option.{slice_get_read}
 use Rattle.smithy_base.specs.declared.kinds.ErrorKind.{ErrorKind}
 use Rattle.retry_quota.specs.Book.{Book, cost_of, release, forget, plain_book}
 use Rattle.retry_quota.specs.History.{Step, Reply, Done, Release, Forget, after, reply_to}
-use Rattle.retry_quota.specs.Meaning.{Meaning, KeepsBuckets, IsKept, Steps, Settles, ChangesLimiter, AddsBucket, AnswersBucket, AddsLimiter, AnswersLimiter}
+use Rattle.retry_quota.specs.Meaning.{Meaning, KeepsBuckets, IsKept, Steps, Settles, ChangesLimiter, AddsBucket, AnswersBucket, AddsLimiter, AnswersLimiter, BucketIsThere, LimiterIsThere}
 use Rattle.retry_quota.specs.Place.{change_at}
-use Rattle.retry_quota.specs.Registers.{Registers, meaning_of}
+use Rattle.retry_quota.specs.Registers.{Registers, meaning_of, AreBelow}
 use Rattle.retry_quota.proofs.BookLemmas.{cost-after, terms-after}
 use Rattle.retry_quota.proofs.PlaceLemmas.{length-change_at, set-changed, map_or-change_at, change_at-past, slice_get-last, slice_get-before, slice_get-past, change_at-refused}
 
@@ -210,6 +211,35 @@ bucket_answered {L} r s p number books names same default none is_next added nam
     (λ numbers. (number ≡ numbers.bucket) × IsKept (meaning_of r) after)) (sym default) unknown in
     subst (λ (t : Registers L). AnswersBucket (meaning_of t) p number after) same answered
 
+-- a number that is kept under a partition is below the count
+known_below : (count : ℕ) (names : List (RetryPartition × ℕ)) (p : RetryPartition) (number : ℕ)
+    → AreBelow count names → lookup (same_partition p) names ≡ Some number → number < count
+known_below count names p number below known =
+    subst (λ o. IfSome o (λ n. n < count)) known (All-lookup (λ n. n < count) (same_partition p) names below)
+
+-- what holds anyway holds where there is nothing
+if_none : {X : Type 0} (P : Type 0) → (o : Option X) → P → IfNone o P
+if_none P None holds = holds
+if_none P (Some x) holds = tt
+
+-- a bucket whose number is kept is there
+pub bucket_there : {L : Type 0} → (r s : Registers L) (p : RetryPartition) (number : ℕ)
+    → r ≡ s → AreBelow (length r.books) r.bucket_names → lookup (same_partition p) r.bucket_names ≡ Some number
+    → BucketIsThere (meaning_of s) p number
+bucket_there {L} r s p number same below known =
+    let within : number < length r.books = known_below (length r.books) r.bucket_names p number below known in
+    subst (λ (t : Registers L). BucketIsThere (meaning_of t) p number) same
+    (if_none (IsTrue (nat_lt number (length r.books))) p.custom (lt-ltb number (length r.books) within))
+
+-- a limiter whose number is kept is there
+pub limiter_there : {L : Type 0} → (r s : Registers L) (p : RetryPartition) (number : ℕ)
+    → r ≡ s → AreBelow (length r.limiters) r.limiter_names → lookup (same_partition p) r.limiter_names ≡ Some number
+    → LimiterIsThere (meaning_of s) p number
+limiter_there {L} r s p number same below known =
+    let within : number < length r.limiters = known_below (length r.limiters) r.limiter_names p number below known in
+    subst (λ (t : Registers L). LimiterIsThere (meaning_of t) p number) same
+    (if_none (number < length r.limiters) p.custom within)
+
 -- a default partition with a bucket has that one
 pub bucket_known : {L : Type 0} → (r s : Registers L) (p : RetryPartition) (number : ℕ)
     → r ≡ s → p.custom ≡ None → lookup (same_partition p) r.bucket_names ≡ Some number
@@ -221,6 +251,29 @@ bucket_known {L} r s p number same default known =
     subst (λ o. MatchOption o (MatchOption (lookup (same_partition p) r.bucket_names) (AddsBucket (meaning_of r) p number (meaning_of r)) (λ other. (number ≡ other) × IsKept (meaning_of r) (meaning_of r)))
     (λ numbers. (number ≡ numbers.bucket) × IsKept (meaning_of r) (meaning_of r))) (sym default) found in
     subst (λ (t : Registers L). AnswersBucket (meaning_of t) p number (meaning_of t)) same answered
+
+at_most_one : {X : Type 0} → (o : Option X) → length (option_to_list o) ≤ 1
+at_most_one None = omega arith
+at_most_one (Some x) = omega arith
+
+-- where there was one book more than the count, and at most one left
+popped_below : (count : ℕ) (names : List (RetryPartition × ℕ)) (books all : List Book) (popped : Option Book)
+    → AreBelow count names → all ≡ books ++ option_to_list popped → length all ≡ count + 1 → AreBelow (length books) names
+popped_below count names books all popped below parts one_more = λ k d within.
+    omega (arith, below k d within, at_most_one popped, ap length parts ∙ length-append books (option_to_list popped), one_more)
+
+-- a new bucket, whose number is kept under no name, may go again
+pub new_popped : {L : Type 0} → (asked : Option ℕ) (old added inside : Registers L) (books : List Book) (popped : Option Book)
+    → is_some asked ≡ false → IfNone asked (AreBelow (length old.books) old.bucket_names)
+    → MatchOption asked (added ≡ record old { books = old.books ++ plain_book 500 ∷ [] }) (λ known. added ≡ old)
+    → inside ≡ added → inside.books ≡ books ++ option_to_list popped
+    → AreBelow (length books) inside.bucket_names
+new_popped (Some known) old added inside books popped none below made same parts = cc
+new_popped {L} None old added inside books popped none below made same parts =
+    let is : inside ≡ record old { books = old.books ++ plain_book 500 ∷ [] } = same ∙ made in
+    let one_more : length inside.books ≡ length old.books + 1 = ap (λ (t : Registers L). length t.books) is ∙ length_last old.books (plain_book 500) in
+    subst (λ names. AreBelow (length books) names) (sym (ap (λ (t : Registers L). t.bucket_names) is))
+    (popped_below (length old.books) old.bucket_names books inside.books popped below parts one_more)
 
 limiter_added : {L : Type 0} → (r : Registers L) (p : RetryPartition) (limiter : L) → lookup (same_partition p) r.limiter_names ≡ None
     → AddsLimiter (meaning_of r) p limiter (length r.limiters)

@@ -1,5 +1,6 @@
 -- What a quota means to those that spend from it, and what a call does to that.
-use Rattle.std.specs.Prelude.{◌≡◌, ℕ, Bool, false, true, nat_lt, IsTrue, List, [], ◌∷◌, ◌++◌, Option, None, Some, IfSome, slice_get, length, option_map, MatchOption, ◌≢◌}
+use Rattle.std.specs.Prelude.{◌≡◌, ℕ, Bool, false, true, nat_lt, IsTrue, List, [], ◌∷◌, ◌++◌, Option, None, Some, IfSome, slice_get, length, option_map, MatchOption, ◌≢◌, ◌<◌}
+use Rattle.std.specs.Option.{IfNone}
 use Rattle.smithy_base.specs.declared.kinds.ErrorKind.{ErrorKind}
 use Rattle.smithy_base.specs.Partition.{same_partition}
 use Rattle.smithy_base.specs.declared.partition.RetryPartition.{RetryPartition}
@@ -104,6 +105,10 @@ AnswersBucket m partition number n = MatchOption partition.custom
     (MatchOption (m.bucket_of partition) (AddsBucket m partition number n) (λ known. (number ≡ known) × IsKept m n))
     (λ numbers. (number ≡ numbers.bucket) × IsKept m n)
 
+-- the bucket of a default partition is there; of the number that a custom one brings nothing is said
+abbrev pub BucketIsThere : {L : Type 0} → Meaning L → RetryPartition → ℕ → Type 0
+BucketIsThere m partition number = IfNone partition.custom (IsTrue (m.has number))
+
 -- a limiter is added under the partition, and nothing else changes
 pub record AddsLimiter {L : Type 0} (m : Meaning L) (partition : RetryPartition) (limiter : L) (number : ℕ) (n : Meaning L) : Type 0 where
   pub new : number ≡ length m.limiters
@@ -122,3 +127,7 @@ abbrev pub AnswersLimiter : {L : Type 0} → Meaning L → RetryPartition → L 
 AnswersLimiter m partition limiter number n = MatchOption partition.custom
     (MatchOption (m.limiter_of partition) (AddsLimiter m partition limiter number n) (λ known. (number ≡ known) × IsKept m n))
     (λ numbers. (number ≡ numbers.limiter) × IsKept m n)
+
+-- the limiter of a default partition is there; of the number that a custom one brings nothing is said
+abbrev pub LimiterIsThere : {L : Type 0} → Meaning L → RetryPartition → ℕ → Type 0
+LimiterIsThere m partition number = IfNone partition.custom (number < length m.limiters)

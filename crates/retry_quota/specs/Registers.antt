@@ -1,5 +1,6 @@
 -- What the registry keeps.
-use Rattle.std.specs.Prelude.{◌≡◌, refl, ℕ, nat_lt, List, [], ◌∷◌, ◌++◌, MatchOption, Option, None, Some, IfSome, slice_get, length}
+use Rattle.std.specs.Prelude.{◌≡◌, refl, ℕ, nat_lt, List, [], ◌∷◌, ◌++◌, MatchOption, Option, None, Some, IfSome, slice_get, length, ◌<◌}
+use Rattle.std.specs.List.{All}
 use Rattle.std.specs.Option.{option_map_or}
 use Rattle.std.specs.Map.{lookup}
 use Rattle.smithy_base.specs.Partition.{same_partition}
@@ -27,6 +28,10 @@ meaning_of r = record {
   bucket_of = λ partition. lookup (same_partition partition) r.bucket_names;
   limiter_of = λ partition. lookup (same_partition partition) r.limiter_names;
 }
+
+-- each number of the table is below the count, so it is that of an item that is there
+abbrev pub AreBelow : ℕ → List (RetryPartition × ℕ) → Type 0
+AreBelow count names = All (λ named. named.1 < count) names
 
 -- the books that the registry tells are its buckets
 pub told_books : {L : Type 0} → (r : Registers L) → AreTheBuckets (meaning_of r) r.books

@@ -9,7 +9,7 @@ use std::alloc::Global;
 
 /// Buckets and limiters by their numbers, from which retries are paid.
 pub trait Quota {
-    ghost use Rattle.retry_quota.specs.Meaning.{Meaning, Steps, Settles, ChangesLimiter, AreTheBuckets, AnswersBucket, AnswersLimiter, IsKept, book_at};
+    ghost use Rattle.retry_quota.specs.Meaning.{Meaning, Steps, Settles, ChangesLimiter, AreTheBuckets, AnswersBucket, AnswersLimiter, BucketIsThere, LimiterIsThere, IsKept, book_at};
 
     /// What an acquire gives. It is spent by a release or a forget.
     type Permit: Drop;
@@ -70,7 +70,8 @@ pub trait Quota {
         ensures { result ≡ option_map sums_of (book_at (meaning self.now) bucket) };
 
     /// The number of the partition's bucket: a custom one brings it. For a default one it is the
-    /// bucket that is kept under its name, and a default bucket is added where the name is new.
+    /// bucket that is kept under its name, and a default bucket is added where the name is new. A
+    /// default partition's bucket is there.
     fn bucket_for(
         &mut self,
         alloc: Global,
@@ -78,10 +79,12 @@ pub trait Quota {
         spec: Option<&RetrySpec>,
     ) -> Result<u32, OutOfMemory>
         ensures ok { IfOk result (λ number. AnswersBucket (meaning self.old) partition.now number (meaning self.new)) }
+        ensures there { IfOk result (λ number. BucketIsThere (meaning self.new) partition.now number) }
         ensures err { OnErr result (IsKept (meaning self.old) (meaning self.new)) };
 
     /// The number of the partition's limiter: a custom one brings it. For a default one it is the
     /// limiter that is kept under its name, and one that begins now is added where the name is new.
+    /// A default partition's limiter is there.
     fn limiter_for(
         &mut self,
         alloc: Global,
@@ -89,6 +92,7 @@ pub trait Quota {
         now: u64,
     ) -> Result<u32, OutOfMemory>
         ensures ok { IfOk result (λ number. AnswersLimiter (meaning self.old) partition.now (Self.Limiter.at now) number (meaning self.new)) }
+        ensures there { IfOk result (λ number. LimiterIsThere (meaning self.new) partition.now number) }
         ensures err { OnErr result (IsKept (meaning self.old) (meaning self.new)) };
 
     /// Asks a limiter for a request at this moment. A number that isn't there refuses nothing.

@@ -19,14 +19,19 @@ pub struct Registry<L: Limiter> {
 }
 
 impl<L: Limiter> Model for Registry<L> {
-    ghost use Rattle.retry_quota.specs.Registers.{Registers};
+    ghost use Rattle.std.specs.Prelude.{length};
+    ghost use Rattle.retry_quota.specs.Registers.{Registers, AreBelow};
 
     ghost Value = { Registers L };
 
     ghost view = { λ r. record { books = r.buckets.items; limiters = r.limiters.items; bucket_names = r.bucket_names; limiter_names = r.limiter_names } };
+
+    ghost invariant = { λ r. AreBelow (length r.buckets.items) r.bucket_names × AreBelow (length r.limiters.items) r.limiter_names };
 }
 
 impl<L: Limiter> Registry<L> {
+    ghost use Rattle.retry_quota.specs.Registers.{AreBelow};
+
     /// The registry without buckets and limiters, which takes no memory yet.
     pub fn new(alloc: Global) -> Result<Registry<L>, OutOfMemory>
         ensures no_buckets { IsOkAnd result (λ r. r.books ≡ []) }
@@ -41,10 +46,11 @@ impl<L: Limiter> Registry<L> {
         })
     }
 
-    /// Adds a bucket, and answers its number. Where there is no memory or no number left, the bucket
-    /// is dropped.
+    /// Adds a bucket, and answers its number, which is kept under no name. Where there is no memory
+    /// or no number left, the bucket is dropped.
     pub fn add_bucket(&mut self, _alloc: Global, bucket: TokenBucket) -> Result<u32, OutOfMemory>
         ensures number { IfOk result (λ number. number ≡ length self.old.books) }
+        ensures unnamed { AreBelow (length self.old.books) self.old.bucket_names }
         ensures ok { IfOk result (λ _. self.new ≡ record self.old { books = self.old.books ++ bucket ∷ [] }) }
         ensures err { OnErr result (self.new ≡ self.old) }
     {
@@ -53,10 +59,11 @@ impl<L: Limiter> Registry<L> {
         Ok(number)
     }
 
-    /// Adds a limiter, and answers its number. Where there is no memory or no number left, the
-    /// limiter is dropped.
+    /// Adds a limiter, and answers its number, which is kept under no name. Where there is no memory
+    /// or no number left, the limiter is dropped.
     pub fn add_limiter(&mut self, _alloc: Global, limiter: L) -> Result<u32, OutOfMemory>
         ensures number { IfOk result (λ number. number ≡ length self.old.limiters) }
+        ensures unnamed { AreBelow (length self.old.limiters) self.old.limiter_names }
         ensures ok { IfOk result (λ _. self.new ≡ record self.old { limiters = self.old.limiters ++ limiter ∷ [] }) }
         ensures err { OnErr result (self.new ≡ self.old) }
     {
@@ -115,11 +122,14 @@ fn add_named<T: Drop>(
 
 impl<L: Limiter> Registry<L> {
     ghost use Rattle.std.specs.Prelude.{MatchOption};
+    ghost use Rattle.std.specs.Option.{IfNone};
     ghost use Rattle.retry_quota.specs.Book.{plain_book};
+    ghost use Rattle.retry_quota.specs.Registers.{AreBelow};
 
-    // The bucket that is asked for, or a new default one.
+    // The bucket that is asked for, or a new default one, whose number is kept under no name.
     fn bucket_or_new(&mut self, alloc: Global, asked: Option<u32>) -> Result<u32, OutOfMemory>
         ensures number { IfOk result (λ number. MatchOption asked (number ≡ length self.old.books) (λ known. number ≡ known)) }
+        ensures unnamed { IfNone asked (AreBelow (length self.old.books) self.old.bucket_names) }
         ensures ok { OnOk result (MatchOption asked (self.new ≡ record self.old { books = self.old.books ++ plain_book 500 ∷ [] }) (λ known. self.new ≡ self.old)) }
         ensures err { OnErr result (self.new ≡ self.old) }
     {

@@ -1,3 +1,5 @@
+ghost use Rattle.std.specs.Prelude.{◌≡◌, None};
+
 use super::*;
 use crate::OpenLimiter;
 use smithy_base::Text;
@@ -73,7 +75,21 @@ fn numbers<Q: Quota>(
     Ok((bucket, limiter))
 }
 
-fn default_partition(name: &'static str) -> RetryPartition {
+// A default partition's bucket is there, so it is acquired from without a question.
+fn acquire_for<Q: Quota>(
+    quota: &mut Q,
+    alloc: Global,
+    partition: &RetryPartition,
+) -> Result<Option<Q::Permit>, OutOfMemory>
+    requires { partition.now.custom ≡ None }
+{
+    let bucket = quota.bucket_for(alloc, partition, None)?;
+    Ok(quota.acquire(bucket, ErrorKind::ServerError, 9))
+}
+
+fn default_partition(name: &'static str) -> RetryPartition
+    ensures { result.custom ≡ None }
+{
     RetryPartition::new(Text::from_static(name))
 }
 
@@ -193,6 +209,22 @@ fn named(alloc: Global) -> Result<[(u32, u32); 5], OutOfMemory> {
 fn a_partition_keeps_its_bucket_and_its_limiter(rt: HostRuntime) {
     let expected = [(2, 0), (2, 0), (3, 1), (4, 2), (7, 9)];
     assert_eq!(rt; named(rt.alloc()), Ok(expected));
+}
+
+// The sums of the bucket of a default partition that acquired twice, when it was new and when it
+// was known.
+fn acquired_twice(alloc: Global) -> Result<Option<[u64; 5]>, OutOfMemory> {
+    let mut registry = two_buckets(alloc)?;
+    let test = default_partition("test");
+    let _ = acquire_for(&mut registry, alloc, &test)?;
+    let _ = acquire_for(&mut registry, alloc, &test)?;
+    Ok(sums(&registry, 2))
+}
+
+#[test]
+fn a_default_partition_pays_from_its_bucket(rt: HostRuntime) {
+    let expected = [500, 0, 490, 10, 0];
+    assert_eq!(rt; acquired_twice(rt.alloc()), Ok(Some(expected)));
 }
 
 fn hash_of(partition: &RetryPartition) -> u64 {
