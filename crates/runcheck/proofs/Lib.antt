@@ -10,3 +10,17 @@ pub mod HeaderReading
 pub mod LayerReading
 pub mod Keys
 pub mod Sizes
+pub mod PrintedForms
+pub mod PrintedNames
+pub mod PrintedHeads
+pub mod PrintedOutcomes
+pub mod PrintedLayers
+pub mod PrintedNotes
+pub mod PrintedAnswers
+pub mod SpelledForms
+pub mod SpelledHeads
+pub mod SpelledOutcomes
+pub mod SpelledLayers
+pub mod SpelledAnswers
+pub mod TextBytes
+pub mod Spelled

@@ -10,3 +10,4 @@ pub mod Readings
 pub mod SettingReadings
 pub mod AnswerReadings
 pub mod Limits
+pub mod Spellable

@@ -1,4 +1,5 @@
-//! The values of scripts and prints: each is read from JSON and printed as JSON, by one definition.
+//! The values of scripts and prints: each is read from JSON and printed as JSON, and what is
+//! printed is read as the same value.
 #![tactic(auto)]
 
 pub mod answer;
@@ -6,6 +7,7 @@ pub mod fault;
 pub mod forms;
 pub mod http;
 pub mod json;
+pub mod laws;
 pub mod limits;
 pub mod lists;
 pub mod names;

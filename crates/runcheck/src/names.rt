@@ -115,6 +115,7 @@ pub fn name_of_kind(kind: Kind) -> &'static str
     }
 }
 
+/// The printed name of a kind of error: that of the Rust crate.
 pub fn error_kind_name(kind: ErrorKind) -> &'static str
     ensures { result.now ≡ error_kind_text kind }
 {
@@ -126,6 +127,7 @@ pub fn error_kind_name(kind: ErrorKind) -> &'static str
     }
 }
 
+/// The printed name of a stop point: that of the Rust crate.
 pub fn stop_name(stop: StopPoint) -> &'static str
     ensures { result.now ≡ stop_text stop }
 {
@@ -135,6 +137,7 @@ pub fn stop_name(stop: StopPoint) -> &'static str
     }
 }
 
+/// The printed name of a retry mode: that of the Rust crate.
 pub fn mode_name(mode: RetryMode) -> &'static str
     ensures { result.now ≡ mode_text mode }
 {
@@ -144,6 +147,7 @@ pub fn mode_name(mode: RetryMode) -> &'static str
     }
 }
 
+/// The printed name of a reconnect mode: that of the Rust crate.
 pub fn reconnect_name(mode: ReconnectMode) -> &'static str
     ensures { result.now ≡ reconnect_text mode }
 {
