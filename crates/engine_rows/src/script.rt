@@ -43,7 +43,7 @@ pub const ANSWERED: &[Line] = &[
     (Deserialize, Spelled::Output(1, "I'm a teapot!")),
 ];
 
-/// The service is unavailable, and the body fails with Io.
+/// The service is unavailable, and the outcome of its response is a connector's failure by Io.
 pub const UNAVAILABLE: &[Line] = &[
     (Transmit, Spelled::Response(503, "")),
     (Stream, Spelled::NotStreaming),

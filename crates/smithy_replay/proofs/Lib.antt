@@ -6,3 +6,5 @@ pub mod KeyCount
 pub mod ScriptAnswers
 pub mod Spelling
 pub mod Invoking
+pub mod Determined
+pub mod Stopped

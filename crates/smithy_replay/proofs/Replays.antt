@@ -2,7 +2,7 @@
 use Rattle.std.proofs.Common.{◌≡◌, ℕ, inl, ◌<◌, List, [], length, true, false, Option, Some, None, refl, sym, subst, ap, ◌∙◌}
 use Rattle.std.specs.Prelude.{IfSome}
 use Rattle.smithy_replay.specs.Moves.{Follows}
-use Rattle.smithy_replay.specs.Replay.{IsReplay, ReplayOf, status_of}
+use Rattle.smithy_replay.specs.Replay.{IsReplay, ReplayOf, ReplayPrints, status_of}
 use Rattle.smithy_replay.specs.Script.{IsInput, is_within}
 use Rattle.smithy_replay.specs.Status.{is_quiet}
 use Rattle.smithy_replay.specs.Streams.{TakenWhole, FrontFollows}
@@ -63,3 +63,19 @@ replay_no_fault s text st (log, e, n, t, q) h = fault_by_ending e (sym q ∙ h)
 -- a status that writes nothing isn't one that writes
 pub not_quiet : (st other : Status) → is_quiet st ≡ false → is_quiet other ≡ true → st ≡ other → ⊥
 not_quiet st other h k e = absurd (cc)
+
+-- what a status says of the bytes says what was written
+pub replay_prints : (bytes : List ℕ) (st : Status) (left before after : Option (List ℕ)) → ReplayOf bytes st left before after → ReplayPrints st before after
+replay_prints bytes statuses.Ok left before after (s, i, w, k, text, r, f) = (s, w, text, r, f)
+replay_prints bytes statuses.SdkError left before after (s, i, w, k, text, r, f) = (s, w, text, r, f)
+replay_prints bytes statuses.Unfinished left before after (s, i, w, k, text, r, f) = (s, w, text, r, f)
+replay_prints bytes statuses.WrongType left before after (s, i, w, k, text, r, f) = (s, w, text, r, f)
+replay_prints bytes statuses.WriteFault left before after (s, i, w, k, text, st, r, f) = (s, w, text, st, r, f)
+replay_prints bytes statuses.ReadFault left before after h = tt
+replay_prints bytes statuses.OutOfMemory left before after h = tt
+replay_prints bytes statuses.BadWords left before after h = absurd h
+replay_prints bytes statuses.BadScript left before after h = tt
+replay_prints bytes statuses.TooLarge left before after h = tt
+replay_prints bytes statuses.NotBuilt left before after h = absurd h
+replay_prints bytes statuses.CheckNo left before after h = absurd h
+replay_prints bytes statuses.WaiterFailed left before after h = absurd h

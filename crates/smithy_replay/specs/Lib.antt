@@ -7,4 +7,5 @@ pub mod Words
 pub mod Script
 pub mod Endings
 pub mod Replay
+pub mod Determined
 pub mod Run

@@ -119,3 +119,26 @@ ReplayOf bytes statuses.TooLarge left before after = PassesLimit bytes left
 ReplayOf bytes statuses.NotBuilt left before after = ⊥
 ReplayOf bytes statuses.CheckNo left before after = ⊥
 ReplayOf bytes statuses.WaiterFailed left before after = ⊥
+
+-- ---- what was written, whatever the source tells
+
+-- All that the replay of a script within its limits prints was written.
+abbrev pub PrintedWhole : Status → Option (List ℕ) → Option (List ℕ) → Type 0
+PrintedWhole status before after = (s : Script) × (is_within s ≡ true) × (text : List ℕ) × IsReplay s text status × Follows text before after
+
+-- A front of it was written.
+abbrev pub PrintedFront : Option (List ℕ) → Option (List ℕ) → Type 0
+PrintedFront before after = (s : Script) × (is_within s ≡ true) × (text : List ℕ) × (status : Status) × IsReplay s text status × FrontFollows text before after
+
+-- The statuses of other commands never come.
+abbrev pub ReplayPrints : Status → Option (List ℕ) → Option (List ℕ) → Type 0
+ReplayPrints statuses.Ok before after = PrintedWhole statuses.Ok before after
+ReplayPrints statuses.SdkError before after = PrintedWhole statuses.SdkError before after
+ReplayPrints statuses.Unfinished before after = PrintedWhole statuses.Unfinished before after
+ReplayPrints statuses.WrongType before after = PrintedWhole statuses.WrongType before after
+ReplayPrints statuses.WriteFault before after = PrintedFront before after
+ReplayPrints statuses.ReadFault before after = Unit {0}
+ReplayPrints statuses.OutOfMemory before after = Unit {0}
+ReplayPrints statuses.BadScript before after = Unit {0}
+ReplayPrints statuses.TooLarge before after = Unit {0}
+ReplayPrints _ before after = ⊥

@@ -1,7 +1,7 @@
 -- What the program does for each command.
 use Rattle.std.specs.Prelude.{ℕ, ◌≡◌, List, Option, IfSome}
 use Rattle.smithy_replay.specs.Moves.{Follows}
-use Rattle.smithy_replay.specs.Replay.{ReplayOf}
+use Rattle.smithy_replay.specs.Replay.{ReplayOf, ReplayPrints}
 use Rattle.smithy_replay.specs.Streams.{FrontFollows}
 use Rattle.smithy_replay.specs.declared.status.Status.{Status}
 use Rattle.smithy_replay.specs.declared.status.Status.TheVariants as statuses
@@ -24,3 +24,8 @@ Did help version commands.Wait status left rest before after = status ≡ status
 Did help version commands.Fleet status left rest before after = status ≡ statuses.NotBuilt
 Did help version commands.Check status left rest before after = status ≡ statuses.NotBuilt
 Did help version (commands.Make count seed) status left rest before after = status ≡ statuses.NotBuilt
+
+-- What the command printed, whatever the source told.
+abbrev pub Prints : Command → Status → Option (List ℕ) → Option (List ℕ) → Type 0
+Prints commands.Replay status before after = ReplayPrints status before after
+Prints _ status before after = Unit {0}

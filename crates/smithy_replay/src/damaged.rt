@@ -11,8 +11,9 @@ use std::sync::Wait;
 use std::test::Fail;
 use std::thread::Threads;
 
-// Texts that are no script: no object, other members, and values of other forms.
-const NO_SCRIPTS: [&str; 24] = [
+// Texts that are no script: no object, members that are missing or misspelled, a second one of
+// another form, values of other forms, and numbers past their fields.
+const NO_SCRIPTS: [&str; 43] = [
     "",
     "[]",
     "{\"fuel\":1.5}",
@@ -37,10 +38,29 @@ const NO_SCRIPTS: [&str; 24] = [
     "{\"fuel\":1,\"input\":[1,{\"hex\":\"0F\"}],\"output_kind\":1,\"error_kind\":2,\"answers\":[]}",
     "{\"fuel\":1,\"input\":[1,{\"hex\":\"0g\"}],\"output_kind\":1,\"error_kind\":2,\"answers\":[]}",
     "{\"fuel\":1,\"input\":[1,{\"hex\":\"\",\"x\":1}],\"output_kind\":1,\"error_kind\":2,\"answers\":[]}",
+    "{\"fuel\":1,\"inputs\":[1,\"\"],\"output_kind\":1,\"error_kind\":2,\"answers\":[]}",
+    "{\"fuel\":1,\"input\":[1,\"\"],\"output-kind\":1,\"error_kind\":2,\"answers\":[]}",
+    "{\"fuel\":1,\"input\":[1,\"\"],\"output_kind\":1,\"errorKind\":2,\"answers\":[]}",
+    "{\"fuel\":1,\"input\":[1,\"\"],\"output_kind\":1,\"error_kind\":2,\"answer\":[]}",
+    "{\"fuel\":1,\"input\":[1,\"\"],\"output_kind\":1,\"error_kind\":2,\"answers\":[],\"stops\":\"None\"}",
+    "{\"fuel\":1,\"input\":[1,\"\"],\"output_kind\":1,\"error_kind\":2,\"answers\":[],\"fuel\":null}",
+    "{\"fuel\":1,\"input\":[1,\"\"],\"output_kind\":1,\"error_kind\":2,\"answers\":[],\"input\":1}",
+    "{\"fuel\":1,\"input\":[1,\"\"],\"output_kind\":1,\"error_kind\":2,\"answers\":[],\"output_kind\":null}",
+    "{\"fuel\":1,\"input\":[1,\"\"],\"output_kind\":1,\"error_kind\":2,\"answers\":[],\"error_kind\":[]}",
+    "{\"fuel\":1,\"input\":[1,\"\"],\"output_kind\":1,\"error_kind\":2,\"answers\":[],\"answers\":null}",
+    "{\"fuel\":1,\"input\":[1,\"\"],\"output_kind\":1,\"error_kind\":2,\"answers\":[],\"stop\":\"None\",\"stop\":1}",
+    "{\"fuel\":1,\"input\":{},\"output_kind\":1,\"error_kind\":2,\"answers\":[]}",
+    "{\"fuel\":1,\"input\":[1,\"\"],\"output_kind\":\"1\",\"error_kind\":2,\"answers\":[]}",
+    "{\"fuel\":1,\"input\":[1,\"\"],\"output_kind\":1,\"error_kind\":true,\"answers\":[]}",
+    "{\"fuel\":1,\"input\":[1,\"\"],\"output_kind\":1,\"error_kind\":2,\"answers\":{}}",
+    "{\"fuel\":1,\"input\":[1,\"\"],\"output_kind\":1,\"error_kind\":2,\"answers\":[[]]}",
+    "{\"fuel\":1,\"input\":[1,\"\"],\"output_kind\":18446744073709551616,\"error_kind\":2,\"answers\":[]}",
+    "{\"fuel\":1,\"input\":[1,\"\"],\"output_kind\":1,\"error_kind\":18446744073709551616,\"answers\":[]}",
+    "{\"fuel\":1,\"input\":[1,\"\"],\"output_kind\":1,\"error_kind\":-0,\"answers\":[]}",
 ];
 
 // Answers that aren't of their kind, or hold a value of another form.
-const NO_ANSWERS: [&str; 23] = [
+const NO_ANSWERS: [&str; 39] = [
     "[\"Teapot\",\"Absent\"]",
     "[\"Initial\",\"Ready\"]",
     "[\"Initial\",\"Go\",1]",
@@ -64,6 +84,22 @@ const NO_ANSWERS: [&str; 23] = [
     "[\"Decide\",[\"Noted\",\"No\",[\"RetryForbidden\",null,0,[\"NoQuota\",4294967296],null]]]",
     "[\"Wait Retry\",\"Absent\"]",
     "[\"Park\",\"Ready\"]",
+    "[\"Configure Client\",[\"Layer\",[[\"timeouts\",[null,null,18446744073709551616,null]]]]]",
+    "[\"Configure Client\",[\"Layer\",[[\"retry\",[\"Standard\",1,18446744073709551616,0,\"ReuseAllConnections\",true,null]]]]]",
+    "[\"Configure Client\",[\"Layer\",[[\"retry\",[\"Standard\",1,0,18446744073709551616,\"ReuseAllConnections\",true,null]]]]]",
+    "[\"Configure Client\",[\"Layer\",[[\"retry\",[\"Standard\",1,0,0,\"ReuseAllConnections\",true,[\"V2_0\",true,18446744073709551616]]]]]]",
+    "[\"Configure Client\",[\"Layer\",[[\"stall\",[true,true,18446744073709551616]]]]]",
+    "[\"Configure Client\",[\"Layer\",[[\"capture\",18446744073709551616]]]]",
+    "[\"Configure Client\",[\"Layer\",[[\"poisoned\",18446744073709551616]]]]",
+    "[\"Initial\",[\"Delay\",18446744073709551616]]",
+    "[\"Choose\",[\"Chosen\",\"s\",[\"\",18446744073709551616],null,[],null]]",
+    "[\"Decide\",[\"Delay\",18446744073709551616]]",
+    "[\"Decide\",[\"Noted\",\"No\",[[\"RetryIndicated\",\"ServerError\",18446744073709551616],null,0,\"NotIndicated\",null]]]",
+    "[\"Decide\",[\"Noted\",\"No\",[\"RetryForbidden\",18446744073709551616,0,\"NotIndicated\",null]]]",
+    "[\"Decide\",[\"Noted\",\"No\",[\"RetryForbidden\",null,18446744073709551616,\"NotIndicated\",null]]]",
+    "[\"Decide\",[\"Noted\",\"No\",[\"RetryForbidden\",null,0,[\"Granted\",4294967296],null]]]",
+    "[\"Decide\",[\"Noted\",\"No\",[\"RetryForbidden\",null,0,\"NotIndicated\",[1,2,3,4,18446744073709551616]]]]",
+    "[\"Deserialize\",[\"Outcome\",[\"Output\",[4294967296,\"\"]]]]",
 ];
 
 // Answers of less common forms.

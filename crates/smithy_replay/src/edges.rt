@@ -86,14 +86,63 @@ fn nesting_has_a_limit(rt: HostRuntime) -> Result<(), Fail> {
     Ok(())
 }
 
+// A script of no fuel with a head of so many headers.
+fn headed(alloc: Global, headers: usize) -> Result<Vec<u8>, Fail> {
+    let front =
+        "{\"fuel\":0,\"input\":[1,\"\"],\"output_kind\":1,\"error_kind\":2,\"answers\":[[\"Transmit\",[\"Response\",[200,[[\"a\",\"\"]";
+    repeated(alloc, front, ",[\"a\",\"\"]", headers - 1, "],null]]]]}")
+}
+
+#[test]
+fn a_head_has_a_limit(rt: HostRuntime) -> Result<(), Fail> {
+    let within = headed(rt.alloc(), 32)?;
+    assert_eq!(rt; status_of(&rt, rt.alloc(), within)?, Status::Unfinished);
+    let over = headed(rt.alloc(), 33)?;
+    assert_eq!(rt; status_of(&rt, rt.alloc(), over)?, Status::TooLarge);
+    Ok(())
+}
+
+// A script of no fuel with so many different keys, each in a layer of its own.
+fn keyed(alloc: Global, keys: usize) -> Result<Vec<u8>, Fail> {
+    let mut text = repeated(alloc, "{\"fuel\":0,\"answers\":[", "", 0, "")?;
+    for key in 0..keys {
+        let part = format!(in alloc;
+            "[\"Configure Client\",[\"Layer\",[[\"user.{key}\",null]]]],"
+        )?;
+        text.extend_from_slice(part.as_bytes())?;
+    }
+    let back = "[\"Park\",\"Parked\"]],\"input\":[1,\"\"],\"output_kind\":1,\"error_kind\":2}";
+    text.extend_from_slice(back.as_bytes())?;
+    Ok(text)
+}
+
+#[test]
+fn the_keys_of_a_script_have_a_limit(rt: HostRuntime) -> Result<(), Fail> {
+    let within = keyed(rt.alloc(), 64)?;
+    assert_eq!(rt; status_of(&rt, rt.alloc(), within)?, Status::Unfinished);
+    let over = keyed(rt.alloc(), 65)?;
+    assert_eq!(rt; status_of(&rt, rt.alloc(), over)?, Status::TooLarge);
+    Ok(())
+}
+
+const BLANKS: &str = "                                                                ";
+
+// A script of so many bytes, most of them blanks.
+fn script_of(alloc: Global, length: usize) -> Result<Vec<u8>, Fail> {
+    let front = "{\"fuel\":0,";
+    let blanks = length - front.len() - REST.len();
+    let mut text = repeated(alloc, front, BLANKS, blanks / BLANKS.len(), "")?;
+    let back = repeated(alloc, "", " ", blanks % BLANKS.len(), REST)?;
+    text.extend_from_slice(&back)?;
+    Ok(text)
+}
+
 #[test]
 fn an_input_has_a_limit(rt: HostRuntime) -> Result<(), Fail> {
-    let front = "{\"fuel\":0,";
-    let blanks = 16_777_216 - front.len() - REST.len();
-    let within = repeated(rt.alloc(), front, " ", blanks, REST)?;
+    let within = script_of(rt.alloc(), 16_777_216)?;
     assert_eq!(rt; within.len(), 16_777_216);
     assert_eq!(rt; status_of(&rt, rt.alloc(), within)?, Status::Unfinished);
-    let over = repeated(rt.alloc(), front, " ", blanks + 1, REST)?;
+    let over = script_of(rt.alloc(), 16_777_217)?;
     assert_eq!(rt; status_of(&rt, rt.alloc(), over)?, Status::TooLarge);
     Ok(())
 }

@@ -156,7 +156,7 @@ pub fn print_ending(alloc: Global, ending: &Ending) -> Result<Json, OutOfMemory>
     }
 }
 
-// Null where there is no request. No run leaves none at its stop point.
+// Null where there is no request.
 fn print_optional_request(alloc: Global, request: &Option<HttpRequest>) -> Result<Json, OutOfMemory>
     ensures { IfOk result (λ j. data_of j ≡ null_or request_data request.now) }
 {

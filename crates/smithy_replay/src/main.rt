@@ -6,6 +6,7 @@ mod damaged;
 #[cfg(test)]
 mod edges;
 pub mod ending;
+pub mod laws;
 pub mod memory;
 pub mod print;
 #[cfg(test)]

@@ -1,9 +1,9 @@
 //! The program over a source and a sink.
-ghost use Rattle.std.specs.Prelude.{◌≡◌, ◌≢◌, ◌≤◌, ◌<◌, [], true, false, ◌↔◌, Some, None, IfSome, IfOk, IfErr, IsErrOf, length};
+ghost use Rattle.std.specs.Prelude.{◌≡◌, ◌≢◌, ◌≤◌, ◌<◌, [], true, false, ◌↔◌, Some, None, IfSome, IfOk, IsErrOf, length};
 ghost use Rattle.orchestrate.specs.Script.{Spelled};
 ghost use Rattle.smithy_replay.specs.Faults.{Rose};
-ghost use Rattle.smithy_replay.specs.Replay.{IsReplay, ReplayOf};
-ghost use Rattle.smithy_replay.specs.Run.{Printed, Did};
+ghost use Rattle.smithy_replay.specs.Replay.{IsReplay, ReplayOf, ReplayPrints};
+ghost use Rattle.smithy_replay.specs.Run.{Printed, Did, Prints};
 ghost use Rattle.smithy_replay.specs.Endings.{Ends};
 ghost use Rattle.smithy_replay.specs.Script.{IsScript, is_within};
 ghost use Rattle.smithy_replay.specs.declared.script.Script.{Script};
@@ -48,6 +48,7 @@ pub fn run<R: Threads + Wait + Sync, S: Source, K: Sink>(
     ensures quiet { is_quiet result ≡ true → sink.new ≡ sink.old }
     ensures did { IfSome (command_of words.now) (λ c. Did HELP.now VERSION.now c result
         (S.left source.old) (S.left source.new) (K.written sink.old) (K.written sink.new)) }
+    ensures printed { IfSome (command_of words.now) (λ c. Prints c result (K.written sink.old) (K.written sink.new)) }
 {
     if is_fleet(command_in(words)) {
         return Status::NotBuilt;
@@ -81,6 +82,7 @@ pub fn run_alone<S: Source, K: Sink>(
     ensures quiet { is_quiet result ≡ true → sink.new ≡ sink.old }
     ensures did { IfSome (command_of words.now) (λ c. Did HELP.now VERSION.now c result
         (S.left source.old) (S.left source.new) (K.written sink.old) (K.written sink.new)) }
+    ensures printed { IfSome (command_of words.now) (λ c. Prints c result (K.written sink.old) (K.written sink.new)) }
 {
     match command_in(words) {
         Some(Command::Help) => print_text(sink, HELP),
@@ -118,6 +120,7 @@ fn replay<S: Source, K: Sink>(alloc: Global, source: &mut S, sink: &mut K) -> St
     ensures quiet { is_quiet result ≡ true → sink.new ≡ sink.old }
     ensures did { IfSome (S.left source.old) (λ bytes. ReplayOf bytes result (S.left source.new)
         (K.written sink.old) (K.written sink.new)) }
+    ensures printed { ReplayPrints result (K.written sink.old) (K.written sink.new) }
 {
     match read_all(alloc, source) {
         Ok(bytes) => replay_bytes(alloc, &bytes, sink),

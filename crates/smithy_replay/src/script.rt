@@ -26,9 +26,11 @@ const KEY_LIMIT: usize = 64;
 /// What a run is begun with.
 #[derive(Drop)]
 pub struct ScriptHead {
+    /// The operation's input.
     pub input: Payload,
     /// The most questions that are asked.
     pub fuel: u64,
+    /// Where the run stops early.
     pub stop: StopPoint,
     /// The kind of payload that is an output.
     pub output_kind: u64,
@@ -39,7 +41,9 @@ pub struct ScriptHead {
 /// A run to be replayed.
 #[derive(Drop)]
 pub struct Script {
+    /// What the run is begun with.
     pub head: ScriptHead,
+    /// What the world answers, in order.
     pub answers: List<ScriptAnswer>,
 }
 

@@ -14,6 +14,7 @@ pub struct StdSource<R> {
 }
 
 impl<R> StdSource<R> {
+    /// A source over the reader, with no error yet.
     pub fn new(reader: R) -> StdSource<R>
         ensures { result.errors ≡ 0 }
     {
@@ -48,6 +49,7 @@ pub struct StdSink<W> {
 }
 
 impl<W> StdSink<W> {
+    /// A sink over the writer, with no error yet.
     pub fn new(writer: W) -> StdSink<W>
         ensures { result.errors ≡ 0 }
     {

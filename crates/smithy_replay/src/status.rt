@@ -5,7 +5,7 @@ ghost use Rattle.smithy_replay.specs.Status.{number_of};
 /// How the program ended. Its number is the exit status.
 #[derive(Clone, Copy, Debug, PartialEq, Eq)]
 pub enum Status {
-    /// The command was done, and its last answer is an output.
+    /// The command was done: a replay's last answer is an output, or the request at its stop point.
     Ok,
     /// The words aren't a command.
     BadWords,
@@ -19,7 +19,7 @@ pub enum Status {
     OutOfMemory,
     /// The input, or a number in it, passes its limit.
     TooLarge,
-    /// The command, or this form of script, isn't built yet.
+    /// The command isn't built yet.
     NotBuilt,
     /// The last answer is an error of the operation.
     SdkError,
