@@ -86,18 +86,18 @@ fn nesting_has_a_limit(rt: HostRuntime) -> Result<(), Fail> {
     Ok(())
 }
 
-// A script of no fuel with a head of so many headers.
-fn headed(alloc: Global, headers: usize) -> Result<Vec<u8>, Fail> {
+// A script of no fuel with a head of one header and so many others.
+fn headed(alloc: Global, others: usize) -> Result<Vec<u8>, Fail> {
     let front =
         "{\"fuel\":0,\"input\":[1,\"\"],\"output_kind\":1,\"error_kind\":2,\"answers\":[[\"Transmit\",[\"Response\",[200,[[\"a\",\"\"]";
-    repeated(alloc, front, ",[\"a\",\"\"]", headers - 1, "],null]]]]}")
+    repeated(alloc, front, ",[\"a\",\"\"]", others, "],null]]]]}")
 }
 
 #[test]
 fn a_head_has_a_limit(rt: HostRuntime) -> Result<(), Fail> {
-    let within = headed(rt.alloc(), 32)?;
+    let within = headed(rt.alloc(), 31)?;
     assert_eq!(rt; status_of(&rt, rt.alloc(), within)?, Status::Unfinished);
-    let over = headed(rt.alloc(), 33)?;
+    let over = headed(rt.alloc(), 32)?;
     assert_eq!(rt; status_of(&rt, rt.alloc(), over)?, Status::TooLarge);
     Ok(())
 }
@@ -127,11 +127,11 @@ fn the_keys_of_a_script_have_a_limit(rt: HostRuntime) -> Result<(), Fail> {
 
 const BLANKS: &str = "                                                                ";
 
-// A script of so many bytes, most of them blanks.
-fn script_of(alloc: Global, length: usize) -> Result<Vec<u8>, Fail> {
-    let front = "{\"fuel\":0,";
-    let blanks = length - front.len() - REST.len();
-    let mut text = repeated(alloc, front, BLANKS, blanks / BLANKS.len(), "")?;
+const FUEL: &str = "{\"fuel\":0,";
+
+// A script with so many blanks.
+fn blank_script(alloc: Global, blanks: usize) -> Result<Vec<u8>, Fail> {
+    let mut text = repeated(alloc, FUEL, BLANKS, blanks / BLANKS.len(), "")?;
     let back = repeated(alloc, "", " ", blanks % BLANKS.len(), REST)?;
     text.extend_from_slice(&back)?;
     Ok(text)
@@ -139,10 +139,11 @@ fn script_of(alloc: Global, length: usize) -> Result<Vec<u8>, Fail> {
 
 #[test]
 fn an_input_has_a_limit(rt: HostRuntime) -> Result<(), Fail> {
-    let within = script_of(rt.alloc(), 16_777_216)?;
+    let blanks = 16_777_216 - FUEL.len() - REST.len();
+    let within = blank_script(rt.alloc(), blanks)?;
     assert_eq!(rt; within.len(), 16_777_216);
     assert_eq!(rt; status_of(&rt, rt.alloc(), within)?, Status::Unfinished);
-    let over = script_of(rt.alloc(), 16_777_217)?;
+    let over = blank_script(rt.alloc(), blanks + 1)?;
     assert_eq!(rt; status_of(&rt, rt.alloc(), over)?, Status::TooLarge);
     Ok(())
 }
