@@ -1,6 +1,7 @@
 #!/bin/sh
 # Counts the instructions of the program, by callgrind: a call of a long run against one of a short
-# run, and a byte of a long script that is read against one of a short script.
+# run, also where a hook of each attempt merges a layer, and a byte of a long script that is read
+# against one of a short script.
 top=$(cd "$(dirname "$0")/.." && pwd)
 program=$top/crates/smithy_replay/out/smithy_replay
 scripts=$(mktemp -d)
@@ -9,12 +10,14 @@ trap 'rm -rf "$scripts"' EXIT
 [ -x "$program" ] || (cd "$top/crates/smithy_replay" && rt run -- --version </dev/null >/dev/null) || exit 1
 
 # A script of so many calls whose service never has an output: each attempt is followed by a delay.
+# The second word is the answer of a hook of each attempt, or nothing.
 retries() {
-    awk -v fuel="$1" 'BEGIN {
+    awk -v fuel="$1" -v hook="$2" 'BEGIN {
         printf "{\"fuel\":%d,\"input\":[1,\"x\"],\"output_kind\":1,\"error_kind\":2,\"answers\":[", fuel
         printf "[\"Configure Client\",[\"Layer\",[]]],[\"Configure Operation\",[\"Layer\",[]]],[\"Configure Final\",[\"Layer\",[]]],"
         printf "[\"Serialize\",[\"Request\",[\"GET\",\"/\",[],\"x\"]]],[\"Initial\",\"Go\"]"
         for (i = 0; i * 23 < fuel; i++) {
+            printf "%s", hook
             printf ",[\"Choose\",[\"Chosen\",\"noAuth\",[\"\",null],null,[],null]],[\"Endpoint\",[\"Endpoint\",[\"http://h\",[],null]]]"
             printf ",[\"Apply\",[\"Request\",[\"GET\",\"http://h/\",[],\"x\"]]],[\"Sign\",[\"Request\",[\"GET\",\"http://h/\",[],\"x\"]]]"
             printf ",[\"Transmit\",[\"Response\",[503,[],\"\"]]],[\"Stream\",\"NotStreaming\"],[\"Body\",[\"Read\",\"\"]]"
@@ -44,14 +47,16 @@ memory() {
     /usr/bin/time -f %M "$program" replay <"$1" 2>&1 >/dev/null | tail -1 | awk '{ print int($1 / 1024) }'
 }
 
-echo "| calls | script, bytes | instructions | a call | memory, MB |"
-echo "|---|---|---|---|---|"
-for fuel in 1000 100000; do
-    retries "$fuel" >"$scripts/run.json"
-    spent=$(instructions "$scripts/run.json")
-    echo "| $fuel | $(wc -c <"$scripts/run.json") | $spent | $((spent / fuel)) | $(memory "$scripts/run.json") |"
+for hook in '' ',["Hook read_before_attempt",["Hook",null,[["capture",1]],null]]'; do
+    echo "| calls | script, bytes | instructions | a call | memory, MB |"
+    echo "|---|---|---|---|---|"
+    for fuel in 1000 100000; do
+        retries "$fuel" "$hook" >"$scripts/run.json"
+        spent=$(instructions "$scripts/run.json")
+        echo "| $fuel | $(wc -c <"$scripts/run.json") | $spent | $((spent / fuel)) | $(memory "$scripts/run.json") |"
+    done
+    echo
 done
-echo
 echo "| script, bytes | instructions | a byte | memory, MB |"
 echo "|---|---|---|---|"
 for size in 1048576 16777216; do
