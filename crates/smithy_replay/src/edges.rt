@@ -1,7 +1,9 @@
 //! Scripts at their limits, and one past them.
+ghost use Rattle.std.specs.Prelude.{None};
 
 use crate::memory::{SureSink, SureSource};
 use crate::run::run;
+use crate::source::{Got, Source};
 use crate::status::Status;
 use smithy_base::{List, Text};
 use std::alloc::Global;
@@ -17,11 +19,19 @@ fn status_of<R: Threads + Wait + Sync>(
     alloc: Global,
     text: Vec<u8>,
 ) -> Result<Status, Fail> {
+    status_over(rt, alloc, &mut SureSource::new(text))
+}
+
+// The status of the replay of what a source gives.
+fn status_over<R: Threads + Wait + Sync, S: Source>(
+    rt: &R,
+    alloc: Global,
+    source: &mut S,
+) -> Result<Status, Fail> {
     let mut words = List::new();
     words.push(alloc, Text::from_str(alloc, "replay")?)?;
-    let mut source = SureSource::new(text);
     let mut sink = SureSink::new(alloc);
-    Ok(run(rt, alloc, words.as_slice(), &mut source, &mut sink))
+    Ok(run(rt, alloc, words.as_slice(), source, &mut sink))
 }
 
 // These parts, and the middle one so many times.
@@ -125,25 +135,47 @@ fn the_keys_of_a_script_have_a_limit(rt: HostRuntime) -> Result<(), Fail> {
     Ok(())
 }
 
-const BLANKS: &str = "                                                                ";
+/// A source that makes so many blanks, and then gives a text.
+#[derive(Drop)]
+struct BlankSource {
+    blanks: usize,
+    text: SureSource,
+}
+
+impl Source for BlankSource {
+    ghost left = { λ _. None };
+
+    ghost faults = { λ _. 0 };
+
+    fn read(&mut self, buffer: &mut [u8]) -> Got {
+        if self.blanks == 0 {
+            return self.text.read(buffer);
+        }
+        let count = self.blanks.min(buffer.len());
+        buffer[..count].fill(b' ');
+        self.blanks -= count;
+        Got::Bytes(count)
+    }
+}
 
 const FUEL: &str = "{\"fuel\":0,";
 
-// A script with so many blanks.
-fn blank_script(alloc: Global, blanks: usize) -> Result<Vec<u8>, Fail> {
-    let mut text = repeated(alloc, FUEL, BLANKS, blanks / BLANKS.len(), "")?;
-    let back = repeated(alloc, "", " ", blanks % BLANKS.len(), REST)?;
-    text.extend_from_slice(&back)?;
-    Ok(text)
+// The status of a script behind so many blanks.
+fn status_behind<R: Threads + Wait + Sync>(
+    rt: &R,
+    alloc: Global,
+    blanks: usize,
+) -> Result<Status, Fail> {
+    let text = SureSource::new(repeated(alloc, FUEL, "", 0, REST)?);
+    status_over(rt, alloc, &mut BlankSource { blanks, text })
 }
 
 #[test]
 fn an_input_has_a_limit(rt: HostRuntime) -> Result<(), Fail> {
     let blanks = 16_777_216 - FUEL.len() - REST.len();
-    let within = blank_script(rt.alloc(), blanks)?;
-    assert_eq!(rt; within.len(), 16_777_216);
-    assert_eq!(rt; status_of(&rt, rt.alloc(), within)?, Status::Unfinished);
-    let over = blank_script(rt.alloc(), blanks + 1)?;
-    assert_eq!(rt; status_of(&rt, rt.alloc(), over)?, Status::TooLarge);
+    let within = status_behind(&rt, rt.alloc(), blanks)?;
+    assert_eq!(rt; within, Status::Unfinished);
+    let over = status_behind(&rt, rt.alloc(), blanks + 1)?;
+    assert_eq!(rt; over, Status::TooLarge);
     Ok(())
 }
