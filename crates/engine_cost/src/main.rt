@@ -13,7 +13,7 @@ use engine_rows::script::{
 use engine_rows::spelled::payload;
 use engine_rows::world;
 use orchestrate::{ScriptWorld, invoke};
-use smithy_base::OutOfMemory;
+use smithy_types::OutOfMemory;
 use std::alloc::Global;
 use std::env;
 

@@ -3,7 +3,7 @@ ghost use Rattle.std.specs.Prelude.{◌≡◌};
 
 use orchestrate::World;
 use run_grammar::{Answer, Question};
-use smithy_base::OutOfMemory;
+use smithy_types::OutOfMemory;
 use std::alloc::Global;
 
 /// A world that answers as another one does, up to a number of questions. From then on it has no

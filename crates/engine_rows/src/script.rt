@@ -8,7 +8,7 @@ use run_grammar::Kind::{
     Stream, Transmit, Wait,
 };
 use run_grammar::{ConfigureStage, Kind, Role};
-use smithy_base::{Choice, List, OutOfMemory};
+use smithy_types::{Choice, List, OutOfMemory};
 use std::alloc::Global;
 
 /// A line of a script: an answer, and the kind of question that it is for.

@@ -2,10 +2,10 @@
 ghost use Rattle.std.specs.Prelude.{◌≡◌, IfOk};
 
 use run_grammar::{Answer, Chosen};
-use smithy_base::{
-    Blob, Body, Choice, ConnectorKind, Endpoint, Fault, FaultKind, Headers, HookAnswer,
-    HttpRequest, HttpResponse, Identity, Layer, List, OutOfMemory, Outcome, Payload, Setting,
-    Shared, Text, TimeoutConfig,
+use smithy_context::{HookAnswer, Layer, Setting};
+use smithy_types::{
+    Blob, Body, Choice, ConnectorKind, Endpoint, Fault, FaultKind, Headers, HttpRequest,
+    HttpResponse, Identity, List, OutOfMemory, Outcome, Payload, Shared, Text, TimeoutConfig,
 };
 use std::alloc::Global;
 

@@ -1,9 +1,9 @@
 //! The tables of what fits, what stands and what is asked, row by row.
 use run_grammar::{Answer, Kind, Standing};
-use smithy_base::{
-    Blob, Body, Endpoint, Fault, FaultKind, Headers, HookView, HttpRequest, HttpResponse, Identity,
-    InterceptorContext, Layer, List, OutOfMemory, Outcome, Payload, Phase, Setting, SettingKey,
-    Settings, Shared, Text, TimeoutConfig,
+use smithy_context::{HookView, InterceptorContext, Layer, Setting, SettingKey, Settings};
+use smithy_types::{
+    Blob, Body, Endpoint, Fault, FaultKind, Headers, HttpRequest, HttpResponse, Identity, List,
+    OutOfMemory, Outcome, Payload, Phase, Shared, Text, TimeoutConfig,
 };
 use std::alloc::Global;
 use std::fmt::Display;

@@ -1,7 +1,7 @@
 ghost use Rattle.std.specs.Prelude.{◌≡◌, ◌+◌, ◌<◌, ◌≤◌, ◌||◌, MatchBool, IfOk, OnOk, OnErr};
 
 use crate::{ClearReply, Clearing, Event, EventLog};
-use smithy_base::OutOfMemory;
+use smithy_types::OutOfMemory;
 use std::alloc::Global;
 use std::marker::Model;
 

@@ -1,7 +1,7 @@
 ghost use Rattle.std.specs.Prelude.{◌≡◌, [], ◌∷◌, ◌++◌, ◌+◌, ◌<◌, ◌≤◌, OnOk, OnErr};
 
 use crate::Event;
-use smithy_base::OutOfMemory;
+use smithy_types::OutOfMemory;
 use std::alloc::Global;
 use std::marker::Model;
 

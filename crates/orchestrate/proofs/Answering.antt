@@ -1,10 +1,10 @@
 -- From what a run over payloads answers to what an operation answers.
 use Rattle.std.proofs.Common.{Bool, false, ℕ, List, [], Result, Ok, Err, ◌≡◌, sym, ap, ◌∙◌, subst, inl, inr, append-nil, arith}
-use Rattle.smithy_base.specs.declared.fault.SdkError.{SdkError}
-use Rattle.smithy_base.specs.declared.kinds.StopPoint.{StopPoint}
-use Rattle.smithy_base.specs.declared.kinds.StopPoint.TheVariants as stops
-use Rattle.smithy_base.specs.declared.payload.Payload.{Payload}
-use Rattle.smithy_base.specs.declared.context.InterceptorContext.{InterceptorContext}
+use Rattle.smithy_types.specs.declared.fault.SdkError.{SdkError}
+use Rattle.smithy_types.specs.declared.kinds.StopPoint.{StopPoint}
+use Rattle.smithy_types.specs.declared.kinds.StopPoint.TheVariants as stops
+use Rattle.smithy_types.specs.declared.payload.Payload.{Payload}
+use Rattle.smithy_context.specs.declared.context.InterceptorContext.{InterceptorContext}
 use Rattle.run_grammar.specs.declared.answer.Entry.{Entry}
 use Rattle.run_grammar.specs.Standing.{State, start}
 use Rattle.run_grammar.specs.Laws.{IsWhole, Begins}

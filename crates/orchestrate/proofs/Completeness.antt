@@ -1,18 +1,18 @@
 -- What an answer is determined by.
 use Rattle.std.proofs.Common.{Bool, true, false, ℕ, List, ◌++◌, Result, Ok, Err, ◌≡◌, ◌⊎◌, refl, sym, ap, ◌∙◌, subst, inl, inr, arith}
 use Rattle.std.proofs.lemmas.List.{append_cancel_left}
-use Rattle.smithy_base.specs.declared.context.InterceptorContext.{InterceptorContext}
-use Rattle.smithy_base.specs.declared.fault.SdkError.{SdkError}
-use Rattle.smithy_base.specs.declared.kinds.StopPoint.{StopPoint}
-use Rattle.smithy_base.specs.declared.kinds.StopPoint.TheVariants as stops
-use Rattle.smithy_base.specs.declared.payload.Payload.{Payload}
+use Rattle.smithy_context.specs.declared.context.InterceptorContext.{InterceptorContext}
+use Rattle.smithy_types.specs.declared.fault.SdkError.{SdkError}
+use Rattle.smithy_types.specs.declared.kinds.StopPoint.{StopPoint}
+use Rattle.smithy_types.specs.declared.kinds.StopPoint.TheVariants as stops
+use Rattle.smithy_types.specs.declared.payload.Payload.{Payload}
 use Rattle.run_grammar.specs.declared.answer.Entry.{Entry}
 use Rattle.run_grammar.specs.Standing.{standing, start}
 use Rattle.run_grammar.specs.Laws.{IsWhole}
 use Rattle.orchestrate.specs.declared.execution.InvokeError.{InvokeError}
 use Rattle.orchestrate.specs.declared.execution.InvokeError.TheVariants.{Sdk, Unfinished, WrongType, OutOfMemory}
 use Rattle.orchestrate.specs.Finish.{answer_of, failure_of}
-use Rattle.smithy_base.specs.Failures.{is_failure}
+use Rattle.smithy_context.specs.Failures.{is_failure}
 use Rattle.orchestrate.specs.Handing.{HadMemory}
 use Rattle.orchestrate.specs.Answered.{Refused, UnfinishedRun, WholeRun, PayloadAnswered, ContextAnswered, OperationAnswered}
 

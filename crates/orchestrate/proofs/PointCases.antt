@@ -8,7 +8,7 @@ use Rattle.run_grammar.specs.declared.kind.ConfigureStage.TheVariants as stages
 use Rattle.run_grammar.specs.declared.answer.Answer.{Answer}
 use Rattle.run_grammar.specs.declared.answer.Answer.TheVariants.{Started, Absent}
 use Rattle.run_grammar.specs.declared.answer.Entry.{Entry}
-use Rattle.smithy_base.specs.declared.kinds.StopPoint.{StopPoint}
+use Rattle.smithy_types.specs.declared.kinds.StopPoint.{StopPoint}
 use Rattle.orchestrate.specs.declared.stage.Armed.{Armed}
 use Rattle.orchestrate.specs.declared.point.Point.{Point}
 use Rattle.orchestrate.specs.declared.point.Point.TheVariants.{AtConfigureClient, AtHookClient, AtConfigureOperation, AtHookOperation, AtConfigureFinal, AtStartOperationFailed, AtStartOperation, AtModifyBeforeSerialization, AtReadBeforeSerialization, AtSerialize, AtLoad, AtReadAfterSerialization, AtModifyBeforeRetryLoop, AtInitial, AtStartSend, AtWaitSend, AtStartAttempt, AtReadBeforeAttempt, AtChoose, AtEndpoint, AtApply, AtModifyBeforeSigning, AtReadBeforeSigning, AtSign, AtReadAfterSigning, AtModifyBeforeTransmit, AtReadBeforeTransmit, AtTransmit, AtReadAfterTransmit, AtModifyBeforeDeserialization, AtReadBeforeDeserialization, AtStream, AtBody, AtDeserialize, AtReadAfterDeserialization, AtModifyBeforeAttemptCompletion, AtReadAfterAttempt, AtDecide, AtStartRetry, AtWaitRetry, AtCutModifyBeforeAttemptCompletion, AtCutReadAfterAttempt, AtModifyBeforeCompletion, AtReadAfterExecution}

@@ -1,7 +1,7 @@
 -- The next point is the machine's next position.
 use Rattle.std.proofs.Common.{false, ◌≡◌, arith}
 use Rattle.orchestrate.specs.declared.point.Point.{Point}
-use Rattle.smithy_base.specs.declared.kinds.StopPoint.{StopPoint}
+use Rattle.smithy_types.specs.declared.kinds.StopPoint.{StopPoint}
 use Rattle.orchestrate.specs.declared.stage.Armed.{Armed}
 use Rattle.orchestrate.specs.declared.point.Point.TheVariants.{AtApply, AtBody, AtChoose, AtConfigureClient, AtConfigureFinal, AtConfigureOperation, AtCutModifyBeforeAttemptCompletion, AtCutReadAfterAttempt, AtDecide, AtDeserialize, AtEndpoint, AtHookClient, AtHookOperation, AtInitial, AtLoad, AtModifyBeforeAttemptCompletion, AtModifyBeforeCompletion, AtModifyBeforeDeserialization, AtModifyBeforeRetryLoop, AtModifyBeforeSerialization, AtModifyBeforeSigning, AtModifyBeforeTransmit, AtReadAfterAttempt, AtReadAfterDeserialization, AtReadAfterExecution, AtReadAfterSerialization, AtReadAfterSigning, AtReadAfterTransmit, AtReadBeforeAttempt, AtReadBeforeDeserialization, AtReadBeforeSerialization, AtReadBeforeSigning, AtReadBeforeTransmit, AtSerialize, AtSign, AtStartAttempt, AtStartOperation, AtStartOperationFailed, AtStartRetry, AtStartSend, AtStream, AtTransmit, AtWaitRetry, AtWaitSend}
 use Rattle.run_grammar.specs.declared.kind.Role.TheVariants.{Attempt, Operation}

@@ -6,7 +6,7 @@ use Rattle.run_grammar.specs.declared.kind.Kind.{Kind}
 use Rattle.run_grammar.specs.declared.answer.Answer.{Answer}
 use Rattle.run_grammar.specs.declared.standing.Standing.{Standing}
 use Rattle.run_grammar.specs.declared.answer.Entry.{Entry}
-use Rattle.smithy_base.specs.declared.kinds.StopPoint.{StopPoint}
+use Rattle.smithy_types.specs.declared.kinds.StopPoint.{StopPoint}
 use Rattle.orchestrate.specs.declared.stage.Armed.{Armed}
 use Rattle.orchestrate.specs.declared.stage.Place.{Place}
 use Rattle.orchestrate.specs.declared.point.Point.{Point}
@@ -16,7 +16,7 @@ use Rattle.orchestrate.specs.declared.invocation.Invocation.{Invocation}
 use Rattle.run_grammar.specs.Entry.{kind_of, pending, ready}
 use Rattle.run_grammar.specs.Fits.{fits}
 use Rattle.run_grammar.specs.declared.kind.Kind.TheVariants as kinds
-use Rattle.smithy_base.specs.declared.payload.Payload.{Payload}
+use Rattle.smithy_types.specs.declared.payload.Payload.{Payload}
 use Rattle.run_grammar.specs.Question.{kind_of_question, nanos_of}
 use Rattle.run_grammar.specs.Change.{changed}
 use Rattle.orchestrate.specs.Fresh.{fresh}

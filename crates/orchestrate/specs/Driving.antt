@@ -3,7 +3,7 @@ use Rattle.std.specs.Prelude.{Bool, true, false, Option, None, Some, cond, [], â
 use Rattle.run_grammar.specs.declared.kind.Role.TheVariants.{Attempt, Operation}
 use Rattle.run_grammar.specs.declared.kind.Kind.{Kind}
 use Rattle.run_grammar.specs.declared.kind.Kind.TheVariants as kinds
-use Rattle.smithy_base.specs.declared.kinds.StopPoint.{StopPoint}
+use Rattle.smithy_types.specs.declared.kinds.StopPoint.{StopPoint}
 use Rattle.orchestrate.specs.declared.point.Point.{Point}
 use Rattle.orchestrate.specs.declared.point.Point.TheVariants.{AtReadBeforeAttempt, AtChoose, AtEndpoint, AtApply, AtModifyBeforeSigning, AtReadBeforeSigning, AtSign, AtReadAfterSigning, AtModifyBeforeTransmit, AtReadBeforeTransmit, AtTransmit, AtReadAfterTransmit, AtModifyBeforeDeserialization, AtReadBeforeDeserialization, AtStream, AtBody, AtDeserialize, AtReadAfterDeserialization, AtCutModifyBeforeAttemptCompletion, AtConfigureClient, AtHookClient, AtConfigureOperation, AtHookOperation, AtConfigureFinal, AtStartOperationFailed, AtStartOperation, AtCutReadAfterAttempt, AtModifyBeforeCompletion, AtReadAfterExecution}
 use Rattle.orchestrate.specs.declared.stage.Armed.{Armed}

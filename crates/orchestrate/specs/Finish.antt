@@ -1,13 +1,13 @@
 -- What a whole run comes to.
 use Rattle.std.specs.Prelude.{Option, None, Some, Result, Ok, Err, codes}
-use Rattle.smithy_base.specs.declared.context.InterceptorContext.{InterceptorContext}
-use Rattle.smithy_base.specs.declared.fault.Fault.{Fault}
-use Rattle.smithy_base.specs.declared.fault.FaultKind.TheVariants as faults
-use Rattle.smithy_base.specs.declared.fault.Outcome.{Outcome}
-use Rattle.smithy_base.specs.declared.fault.Outcome.TheVariants.{Output, Failed}
-use Rattle.smithy_base.specs.declared.fault.SdkError.{SdkError}
-use Rattle.smithy_base.specs.declared.payload.Payload.{Payload}
-use Rattle.smithy_base.specs.Failures.{sdk_error_of}
+use Rattle.smithy_context.specs.declared.context.InterceptorContext.{InterceptorContext}
+use Rattle.smithy_types.specs.declared.fault.Fault.{Fault}
+use Rattle.smithy_types.specs.declared.fault.FaultKind.TheVariants as faults
+use Rattle.smithy_types.specs.declared.fault.Outcome.{Outcome}
+use Rattle.smithy_types.specs.declared.fault.Outcome.TheVariants.{Output, Failed}
+use Rattle.smithy_types.specs.declared.fault.SdkError.{SdkError}
+use Rattle.smithy_types.specs.declared.payload.Payload.{Payload}
+use Rattle.smithy_context.specs.Failures.{sdk_error_of}
 
 abbrev pub no_outcome : Fault
 no_outcome = record { kind = faults.Other; text = codes "no outcome stands" }

@@ -1,7 +1,7 @@
 -- An invocation that has asked nothing.
 use Rattle.std.specs.Prelude.{false}
-use Rattle.smithy_base.specs.declared.kinds.StopPoint.{StopPoint}
-use Rattle.smithy_base.specs.declared.payload.Payload.{Payload}
+use Rattle.smithy_types.specs.declared.kinds.StopPoint.{StopPoint}
+use Rattle.smithy_types.specs.declared.payload.Payload.{Payload}
 use Rattle.run_grammar.specs.Standing.{starting}
 use Rattle.orchestrate.specs.declared.point.Point.TheVariants.{AtConfigureClient}
 use Rattle.orchestrate.specs.declared.stage.Waiting.TheVariants.{NotWaiting}

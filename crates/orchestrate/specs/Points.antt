@@ -3,15 +3,15 @@ use Rattle.std.specs.Prelude.{false, Option, None, Some, cond, List, [], ◌∷�
 use Rattle.run_grammar.specs.declared.kind.Role.{Role}
 use Rattle.run_grammar.specs.declared.kind.Kind.{Kind}
 use Rattle.orchestrate.specs.declared.point.Point.{Point}
-use Rattle.smithy_base.specs.declared.kinds.StopPoint.{StopPoint}
+use Rattle.smithy_types.specs.declared.kinds.StopPoint.{StopPoint}
 use Rattle.orchestrate.specs.declared.stage.Armed.{Armed}
 use Rattle.orchestrate.specs.declared.stage.Place.{Place}
-use Rattle.smithy_base.specs.declared.hook.Hook.TheVariants.{ModifyBeforeAttemptCompletion, ModifyBeforeCompletion, ModifyBeforeDeserialization, ModifyBeforeRetryLoop, ModifyBeforeSerialization, ModifyBeforeSigning, ModifyBeforeTransmit, ReadAfterAttempt, ReadAfterDeserialization, ReadAfterExecution, ReadAfterSerialization, ReadAfterSigning, ReadAfterTransmit, ReadBeforeAttempt, ReadBeforeDeserialization, ReadBeforeExecutionClient, ReadBeforeExecutionOperation, ReadBeforeSerialization, ReadBeforeSigning, ReadBeforeTransmit}
+use Rattle.smithy_types.specs.declared.hook.Hook.TheVariants.{ModifyBeforeAttemptCompletion, ModifyBeforeCompletion, ModifyBeforeDeserialization, ModifyBeforeRetryLoop, ModifyBeforeSerialization, ModifyBeforeSigning, ModifyBeforeTransmit, ReadAfterAttempt, ReadAfterDeserialization, ReadAfterExecution, ReadAfterSerialization, ReadAfterSigning, ReadAfterTransmit, ReadBeforeAttempt, ReadBeforeDeserialization, ReadBeforeExecutionClient, ReadBeforeExecutionOperation, ReadBeforeSerialization, ReadBeforeSigning, ReadBeforeTransmit}
 use Rattle.run_grammar.specs.declared.kind.Kind.TheVariants as kinds
 use Rattle.orchestrate.specs.declared.point.Point.TheVariants.{AtApply, AtBody, AtChoose, AtConfigureClient, AtConfigureFinal, AtConfigureOperation, AtCutModifyBeforeAttemptCompletion, AtCutReadAfterAttempt, AtDecide, AtDeserialize, AtEndpoint, AtHookClient, AtHookOperation, AtInitial, AtLoad, AtModifyBeforeAttemptCompletion, AtModifyBeforeCompletion, AtModifyBeforeDeserialization, AtModifyBeforeRetryLoop, AtModifyBeforeSerialization, AtModifyBeforeSigning, AtModifyBeforeTransmit, AtReadAfterAttempt, AtReadAfterDeserialization, AtReadAfterExecution, AtReadAfterSerialization, AtReadAfterSigning, AtReadAfterTransmit, AtReadBeforeAttempt, AtReadBeforeDeserialization, AtReadBeforeSerialization, AtReadBeforeSigning, AtReadBeforeTransmit, AtSerialize, AtSign, AtStartAttempt, AtStartOperation, AtStartOperationFailed, AtStartRetry, AtStartSend, AtStream, AtTransmit, AtWaitRetry, AtWaitSend}
 use Rattle.run_grammar.specs.declared.kind.Role.TheVariants.{Attempt, Operation, Retry, Send}
 use Rattle.run_grammar.specs.declared.kind.ConfigureStage.TheVariants as stages
-use Rattle.smithy_base.specs.declared.kinds.StopPoint.TheVariants as stops
+use Rattle.smithy_types.specs.declared.kinds.StopPoint.TheVariants as stops
 use Rattle.run_grammar.specs.Standing.{State}
 use Rattle.run_grammar.specs.Grammar.{hook, halted, arm, armed, sending, streaming, attempt, settle, round, loop, grant_round, grant, op, finish, failed, delayed, went, started, not_streaming, body_read, decided_yes, decided_delay, endpoint_stands, load_body, checkpoint_stands, failure_stands, timeout_stands}
 use Rattle.run_grammar.specs.Production.{Production, Nothing, Work, ◌⨟◌, Where, Rounds, Again, InAttempt, Under}

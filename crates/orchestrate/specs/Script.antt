@@ -1,6 +1,6 @@
 -- How a list of answers answers questions.
 use Rattle.std.specs.Prelude.{Bool, true, false, cond, ◌≡◌, None, List, [], ◌∷◌}
-use Rattle.smithy_base.specs.declared.intercept.HookAnswer.{HookAnswer}
+use Rattle.smithy_context.specs.declared.intercept.HookAnswer.{HookAnswer}
 use Rattle.run_grammar.specs.declared.kind.Kind.{Kind}
 use Rattle.run_grammar.specs.declared.kind.Kind.TheVariants as kinds
 use Rattle.run_grammar.specs.declared.answer.Answer.{Answer}

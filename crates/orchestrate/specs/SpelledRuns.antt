@@ -1,6 +1,6 @@
 -- The runs that a script spells.
 use Rattle.std.specs.Prelude.{ℕ, ◌≤◌, length, List, ◌≡◌, ◌⊎◌}
-use Rattle.smithy_base.specs.declared.kinds.StopPoint.{StopPoint}
+use Rattle.smithy_types.specs.declared.kinds.StopPoint.{StopPoint}
 use Rattle.run_grammar.specs.declared.answer.Entry.{Entry}
 use Rattle.run_grammar.specs.Standing.{State}
 use Rattle.run_grammar.specs.Laws.{IsWhole, Begins}

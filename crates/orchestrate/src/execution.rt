@@ -8,7 +8,8 @@ use crate::finish::{failure, outcome};
 use crate::invocation::{Invocation, Step};
 use crate::world::World;
 use run_grammar::{Standing, StopPoint};
-use smithy_base::{InterceptorContext, OutOfMemory, Payload, SdkError};
+use smithy_context::InterceptorContext;
+use smithy_types::{OutOfMemory, Payload, SdkError};
 use std::alloc::Global;
 
 /// Why an operation has no output.

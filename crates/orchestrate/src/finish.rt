@@ -2,9 +2,8 @@
 ghost use Rattle.std.specs.Prelude.{◌≡◌};
 ghost use Rattle.orchestrate.specs.Finish.{answer_of, failure_of, no_outcome};
 
-use smithy_base::{
-    Fault, FaultKind, HookView, HttpResponse, InterceptorContext, Outcome, Payload, SdkError, Text,
-};
+use smithy_context::{HookView, InterceptorContext};
+use smithy_types::{Fault, FaultKind, HttpResponse, Outcome, Payload, SdkError, Text};
 
 const NO_OUTCOME: &'static str = "no outcome stands";
 

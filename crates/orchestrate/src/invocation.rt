@@ -10,7 +10,7 @@ use crate::reply::Reply;
 use crate::stage::{Armed, Place, Stage, Waiting, asks_at, moved};
 use crate::world::World;
 use run_grammar::{Standing, StopPoint};
-use smithy_base::{OutOfMemory, Payload};
+use smithy_types::{OutOfMemory, Payload};
 use std::alloc::Global;
 
 /// A run of an operation: what stands in it, and where it stands. It never sees the log.

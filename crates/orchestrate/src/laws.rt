@@ -1,10 +1,10 @@
 //! What holds of every invocation and of every answer. Each law is the contract of a function
 //! without a body.
 ghost use Rattle.std.specs.Prelude.{◌≡◌, ◌++◌, ℕ, List, Ok, Result, true};
-ghost use Rattle.smithy_base.specs.declared.context.InterceptorContext.{InterceptorContext};
-ghost use Rattle.smithy_base.specs.declared.kinds.StopPoint.{StopPoint};
-ghost use Rattle.smithy_base.specs.declared.kinds.StopPoint.TheVariants as stops;
-ghost use Rattle.smithy_base.specs.declared.payload.Payload.{Payload};
+ghost use Rattle.smithy_context.specs.declared.context.InterceptorContext.{InterceptorContext};
+ghost use Rattle.smithy_types.specs.declared.kinds.StopPoint.{StopPoint};
+ghost use Rattle.smithy_types.specs.declared.kinds.StopPoint.TheVariants as stops;
+ghost use Rattle.smithy_types.specs.declared.payload.Payload.{Payload};
 ghost use Rattle.run_grammar.specs.declared.answer.Entry.{Entry};
 ghost use Rattle.run_grammar.specs.Standing.{State, standing, start};
 ghost use Rattle.run_grammar.specs.Laws.{Begins, IsWhole};
@@ -16,7 +16,7 @@ ghost use Rattle.orchestrate.specs.Handing.{HadMemory};
 ghost use Rattle.orchestrate.specs.SpelledRuns.{OneSpelledRun};
 ghost use Rattle.orchestrate.specs.Stands.{Stands};
 
-use smithy_base::Wire;
+use smithy_types::Wire;
 
 /// An invocation that stands at a list begins a run by it.
 pub fn standing_begins_a_run()

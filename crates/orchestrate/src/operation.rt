@@ -6,7 +6,7 @@ ghost use Rattle.orchestrate.specs.Answered.{ErrorRead, InputAnswered, OutputRea
 
 use crate::execution::{InvokeError, invoke};
 use crate::world::World;
-use smithy_base::{Payload, SdkError, Text, Wire};
+use smithy_types::{Payload, SdkError, Text, Wire};
 use std::alloc::{AllocError, Global};
 use std::marker::PhantomData;
 

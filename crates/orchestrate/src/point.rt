@@ -4,7 +4,7 @@ ghost use Rattle.orchestrate.specs.Points.{kind_at};
 ghost use Rattle.orchestrate.specs.Driving.{is_in_attempt, is_in_operation};
 
 use run_grammar::{ConfigureStage, Kind, Role};
-use smithy_base::Hook;
+use smithy_types::Hook;
 
 /// A place in a run: the question that is asked there is next.
 #[derive(Clone, Copy, Debug, PartialEq, Eq)]

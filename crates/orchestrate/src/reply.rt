@@ -4,7 +4,7 @@ ghost use Rattle.run_grammar.specs.Entry.{can_wait, same_role};
 ghost use Rattle.orchestrate.specs.Replies.{reply_of, started_by, started_of};
 
 use run_grammar::{Answer, Kind, Role};
-use smithy_base::Choice;
+use smithy_types::Choice;
 
 /// What of an answer the way on depends on.
 #[derive(Clone, Copy, Debug, PartialEq, Eq)]

@@ -5,7 +5,7 @@ ghost use Rattle.orchestrate.specs.Same.{same_stage, same_hook, same_abandonable
 
 use crate::reply::same_role;
 use run_grammar::{Abandonable, ConfigureStage, Kind};
-use smithy_base::Hook;
+use smithy_types::Hook;
 
 /// Whether the two kinds are one, a hook's hook and a sleep's role included.
 pub fn same_kind(a: Kind, b: Kind) -> bool

@@ -6,7 +6,8 @@ ghost use Rattle.orchestrate.specs.Script.{default_for, Replies};
 use crate::same::same_kind;
 use crate::world::World;
 use run_grammar::{Answer, Entry, Kind, Question};
-use smithy_base::{HookAnswer, List, OutOfMemory};
+use smithy_context::HookAnswer;
+use smithy_types::{List, OutOfMemory};
 use std::alloc::Global;
 use std::marker::Model;
 

@@ -1,6 +1,6 @@
 //! What answers the questions of a run.
 use run_grammar::{Answer, Question};
-use smithy_base::OutOfMemory;
+use smithy_types::OutOfMemory;
 use std::alloc::Global;
 
 /// Everything outside of the engine: settings, interceptors, serializers, identities, the

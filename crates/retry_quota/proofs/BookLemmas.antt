@@ -1,8 +1,8 @@
 -- What every step of a book keeps.
 use Rattle.std.proofs.Common.{◌≡◌, ◌∙◌, ap, refl, ℕ, ◌+◌, ◌-◌, ◌/◌, ◌%◌, ◌^◌, ◌≤◌, Bool, true, false, if◌then◌else◌, List, [], ◌∷◌, ◌++◌, arith, nat_lt, nat_le}
 use Rattle.std.proofs.lemmas.Bool.{leb-true}
-use Rattle.smithy_base.specs.declared.kinds.ErrorKind.{ErrorKind}
-use Rattle.smithy_base.specs.declared.kinds.ErrorKind.TheVariants.{TransientError, ThrottlingError, ServerError, ClientError}
+use Rattle.smithy_types.specs.declared.kinds.ErrorKind.{ErrorKind}
+use Rattle.smithy_types.specs.declared.kinds.ErrorKind.TheVariants.{TransientError, ThrottlingError, ServerError, ClientError}
 use Rattle.retry_quota.specs.Book.{Book, terms_of, IsBalanced, cost_of, refill, add, convert, ready, spend, fitting}
 use Rattle.retry_quota.specs.History.{Step, Acquire, Release, Forget, Reward, Regenerate, Convert, Look, Entry, after, end_of, is_granted, IsLegal}
 

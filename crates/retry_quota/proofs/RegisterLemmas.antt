@@ -7,12 +7,12 @@ use Rattle.std.proofs.lemmas.Bool.Decides.{nat_tests}
 use Rattle.std.specs.Cmp.{and_equiv, on_equiv, bool_eq_equiv}
 use Rattle.std.specs.Cmp.Lexicographic.{nat_list_eq_equiv}
 use Rattle.std.specs.Map.{lookup}
-use Rattle.smithy_base.specs.Partition.{same_partition}
-use Rattle.smithy_base.specs.declared.partition.RetryPartition.{RetryPartition}
+use Rattle.smithy_types.specs.Partition.{same_partition}
+use Rattle.smithy_types.specs.declared.partition.RetryPartition.{RetryPartition}
 use Rattle.retry_quota.proofs.TableLemmas.{lookup-new, lookup-other}
 use Rattle.std.proofs.lemmas.Map.Entries.{All-lookup}
 use Rattle.std.proofs.lemmas.Option.{slice_get_read}
-use Rattle.smithy_base.specs.declared.kinds.ErrorKind.{ErrorKind}
+use Rattle.smithy_types.specs.declared.kinds.ErrorKind.{ErrorKind}
 use Rattle.retry_quota.specs.Book.{Book, cost_of, release, forget, plain_book}
 use Rattle.retry_quota.specs.History.{Step, Reply, Done, Release, Forget, after, reply_to}
 use Rattle.retry_quota.specs.Meaning.{Meaning, KeepsBuckets, IsKept, Steps, Settles, ChangesLimiter, AddsBucket, AnswersBucket, AddsLimiter, AnswersLimiter, BucketIsThere, LimiterIsThere}

@@ -1,8 +1,8 @@
 -- A token bucket as a book of plain sums: what it is, and what each step makes of it.
 use Rattle.std.specs.Prelude.{◌≡◌, ℕ, ◌+◌, ◌-◌, ◌*◌, ◌/◌, ◌%◌, ◌^◌, ◌<◌, ◌≤◌, ◌==◌, ◌&&◌, Bool, not, if◌then◌else◌, nat_lt, nat_le, min}
-use Rattle.smithy_base.specs.declared.kinds.ErrorKind.{ErrorKind}
-use Rattle.smithy_base.specs.declared.kinds.ErrorKind.TheVariants.{TransientError, ThrottlingError, ServerError, ClientError}
-use Rattle.smithy_base.specs.declared.sums.Sums.{Sums}
+use Rattle.smithy_types.specs.declared.kinds.ErrorKind.{ErrorKind}
+use Rattle.smithy_types.specs.declared.kinds.ErrorKind.TheVariants.{TransientError, ThrottlingError, ServerError, ClientError}
+use Rattle.smithy_types.specs.declared.sums.Sums.{Sums}
 use Rattle.retry_quota.specs.declared.TheConstants.{MAXIMUM_CAPACITY}
 
 -- whole tokens, but for the reward, the rate and the fraction, which are thousandths of a token

@@ -1,7 +1,7 @@
 -- The steps of a book, their replies, and the histories that are made of them.
 use Rattle.std.specs.Prelude.{◌≡◌, ℕ, Bool, if◌then◌else◌, nat_le, List, [], ◌∷◌, Option, None, Some}
-use Rattle.smithy_base.specs.declared.kinds.ErrorKind.{ErrorKind}
-use Rattle.smithy_base.specs.declared.sums.Sums.{Sums}
+use Rattle.smithy_types.specs.declared.kinds.ErrorKind.{ErrorKind}
+use Rattle.smithy_types.specs.declared.sums.Sums.{Sums}
 use Rattle.retry_quota.specs.Book.{Book, cost_of, ready, spend, release, forget, credit, add, convert, is_full, is_empty, sums_of}
 
 pub data Step : Type 0 where

@@ -1,9 +1,9 @@
 -- What a quota means to those that spend from it, and what a call does to that.
 use Rattle.std.specs.Prelude.{◌≡◌, ℕ, Bool, false, true, nat_lt, IsTrue, List, [], ◌∷◌, ◌++◌, Option, None, Some, IfSome, slice_get, length, option_map, MatchOption, ◌≢◌, ◌<◌}
 use Rattle.std.specs.Option.{IfNone}
-use Rattle.smithy_base.specs.declared.kinds.ErrorKind.{ErrorKind}
-use Rattle.smithy_base.specs.Partition.{same_partition}
-use Rattle.smithy_base.specs.declared.partition.RetryPartition.{RetryPartition}
+use Rattle.smithy_types.specs.declared.kinds.ErrorKind.{ErrorKind}
+use Rattle.smithy_types.specs.Partition.{same_partition}
+use Rattle.smithy_types.specs.declared.partition.RetryPartition.{RetryPartition}
 use Rattle.retry_quota.specs.Book.{Book, cost_of, plain_book}
 use Rattle.retry_quota.specs.History.{Step, Reply, Done, Entry, after, reply_to}
 use Rattle.retry_quota.specs.Place.{change_at}

@@ -3,12 +3,12 @@ use Rattle.std.specs.Prelude.{◌≡◌, refl, ℕ, nat_lt, List, [], ◌∷◌,
 use Rattle.std.specs.List.{All}
 use Rattle.std.specs.Option.{option_map_or}
 use Rattle.std.specs.Map.{lookup}
-use Rattle.smithy_base.specs.Partition.{same_partition}
-use Rattle.smithy_base.specs.declared.partition.CustomPartition.{CustomPartition}
-use Rattle.smithy_base.specs.declared.partition.RetryPartition.{RetryPartition}
+use Rattle.smithy_types.specs.Partition.{same_partition}
+use Rattle.smithy_types.specs.declared.partition.CustomPartition.{CustomPartition}
+use Rattle.smithy_types.specs.declared.partition.RetryPartition.{RetryPartition}
 use Rattle.retry_quota.specs.Book.{Book, cost_of, plain_book}
 use Rattle.retry_quota.specs.Meaning.{Meaning, AreTheBuckets}
-use Rattle.smithy_base.specs.declared.kinds.ErrorKind.{ErrorKind}
+use Rattle.smithy_types.specs.declared.kinds.ErrorKind.{ErrorKind}
 
 -- buckets and limiters stand at their numbers, and the tables have the numbers of default partitions
 pub record Registers (L : Type 0) : Type 0 where

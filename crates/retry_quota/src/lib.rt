@@ -19,7 +19,7 @@ pub use partition_table::PartitionTable;
 pub use permit::Permit;
 pub use quota::Quota;
 pub use registry::Registry;
-pub use smithy_base::{RetryPartition, RetryPartitionBuilder, Sums};
+pub use smithy_types::{RetryPartition, RetryPartitionBuilder, Sums};
 pub use static_partition_map::StaticPartitionMap;
 pub use token_bucket::TokenBucket;
 

@@ -4,7 +4,7 @@ ghost use Rattle.retry_quota.specs.Book.{sums_of};
 ghost use Rattle.retry_quota.specs.History.{Acquire, Release, Forget, Reward, Regenerate, Done, acquire_reply};
 
 use crate::{Limiter, RequestReason, Sums};
-use smithy_base::{ErrorKind, OutOfMemory, RetryPartition, RetrySpec};
+use smithy_types::{ErrorKind, OutOfMemory, RetryPartition, RetrySpec};
 use std::alloc::Global;
 
 /// Buckets and limiters by their numbers, from which retries are paid.

@@ -1,9 +1,9 @@
 ghost use Rattle.std.specs.Prelude.{◌≡◌, ◌++◌, ◌∷◌, [], length, IfOk, IsOkAnd, OnOk, OnErr, None};
 ghost use Rattle.std.specs.Map.{lookup};
-ghost use Rattle.smithy_base.specs.Partition.{same_partition};
+ghost use Rattle.smithy_types.specs.Partition.{same_partition};
 
 use crate::{Limiter, PartitionTable, Permit, Quota, RequestReason, Sums, TokenBucket};
-use smithy_base::{
+use smithy_types::{
     CustomPartition, ErrorKind, OutOfMemory, PartitionRegistry, RetryPartition, RetrySpec,
 };
 use std::alloc::Global;

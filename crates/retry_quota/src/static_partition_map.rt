@@ -1,7 +1,7 @@
 ghost use Rattle.std.specs.Prelude.{◌≡◌};
 
 use crate::PartitionTable;
-use smithy_base::OutOfMemory;
+use smithy_types::OutOfMemory;
 use std::alloc::Global;
 use std::hash::Hash;
 use std::sync::{Mutex, Wait};

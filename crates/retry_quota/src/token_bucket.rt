@@ -17,7 +17,7 @@ ghost use Rattle.retry_quota.specs.History.{after, acquire_reply, reply_to};
 ghost use Rattle.retry_quota.specs.History.{Acquire, Release, Forget, Reward, Regenerate, Convert};
 
 use crate::{MAXIMUM_CAPACITY, Permit, QuotaError, Sums, TokenBucketBuilder};
-use smithy_base::ErrorKind;
+use smithy_types::ErrorKind;
 use std::marker::Model;
 
 /// The capacity where none is set.

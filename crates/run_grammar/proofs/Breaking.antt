@@ -3,7 +3,7 @@ use Rattle.std.proofs.Common.{Bool, true, false, cond, List, [], ◌∷◌, ◌+
 use Rattle.run_grammar.specs.declared.kind.Role.TheVariants as roles
 use Rattle.run_grammar.specs.declared.kind.Kind.{Kind}
 use Rattle.run_grammar.specs.declared.kind.Kind.TheVariants as kinds
-use Rattle.smithy_base.specs.declared.hook.Hook.TheVariants as hooks
+use Rattle.smithy_types.specs.declared.hook.Hook.TheVariants as hooks
 use Rattle.run_grammar.specs.declared.answer.Entry.{Entry}
 use Rattle.run_grammar.specs.Entry.{kind_of, is_wait_of_deadline}
 use Rattle.run_grammar.specs.Attempts.{asked_of, attempts, begins_attempt, Completed, EachCompleted, is_completion, up_to_attempt}

@@ -2,12 +2,12 @@
 use Rattle.std.proofs.Common.{Bool, true, false, cond, List, [], ◌∷◌, ◌++◌, ◌≡◌, ◌⊎◌, refl, sym, ap, ◌∙◌, subst, inl, inr, append_assoc, append-nil}
 use Rattle.run_grammar.specs.declared.kind.Role.TheVariants.{Operation, Attempt, Send, LongPoll, Retry}
 use Rattle.run_grammar.specs.declared.answer.Entry.{Entry}
-use Rattle.smithy_base.specs.declared.kinds.StopPoint.{StopPoint}
+use Rattle.smithy_types.specs.declared.kinds.StopPoint.{StopPoint}
 use Rattle.run_grammar.specs.Standing.{State, standing}
 use Rattle.run_grammar.specs.Production.{Production, Nothing, Work, ◌⨟◌, Where, Under, End, Ended, Further, CutBy}
 use Rattle.run_grammar.specs.Words.{Word, ScopeEnds}
 use Rattle.run_grammar.specs.declared.kind.Kind.TheVariants.{Configure}
-use Rattle.smithy_base.specs.declared.hook.Hook.TheVariants.{ReadBeforeExecutionClient, ReadBeforeExecutionOperation}
+use Rattle.smithy_types.specs.declared.hook.Hook.TheVariants.{ReadBeforeExecutionClient, ReadBeforeExecutionOperation}
 use Rattle.run_grammar.specs.declared.kind.ConfigureStage.TheVariants as stages
 use Rattle.run_grammar.specs.Grammar.{hook, arm, armed, configured, failed, failure_stands, finish, op, settle, started, run}
 use Rattle.run_grammar.specs.Laws.{IsRun}

@@ -2,10 +2,10 @@
 use Rattle.std.proofs.Common.{Bool, true, false, cond, List, ◌≡◌, refl, sym, ap, ◌∙◌, subst}
 use Rattle.run_grammar.specs.declared.kind.Role.{Role}
 use Rattle.run_grammar.specs.declared.kind.Kind.{Kind}
-use Rattle.smithy_base.specs.declared.kinds.StopPoint.{StopPoint}
+use Rattle.smithy_types.specs.declared.kinds.StopPoint.{StopPoint}
 use Rattle.run_grammar.specs.declared.kind.Kind.TheVariants.{Decide, Initial}
 use Rattle.run_grammar.specs.declared.kind.Role.TheVariants.{Attempt, Operation}
-use Rattle.smithy_base.specs.declared.kinds.StopPoint.TheVariants as stops
+use Rattle.smithy_types.specs.declared.kinds.StopPoint.TheVariants as stops
 use Rattle.run_grammar.specs.Standing.{State, standing, step}
 use Rattle.run_grammar.specs.Grammar.{run, op, loop, round, turn, attempt, armed, arm, grant, grant_round, front, settle, finish, decided_yes, decided_delay, delayed}
 use Rattle.run_grammar.specs.Production.{Production, Nothing, Work, ◌⨟◌, Where, Rounds, Again, InAttempt, Under, Ended}

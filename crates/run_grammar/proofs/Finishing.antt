@@ -6,7 +6,7 @@ use Rattle.run_grammar.specs.declared.answer.Answer.{Answer}
 use Rattle.run_grammar.specs.declared.answer.Entry.{Entry}
 use Rattle.run_grammar.specs.declared.answer.Answer.TheVariants.{Abandoned, Absent, Hooked, Parked, Ready}
 use Rattle.run_grammar.specs.declared.kind.Kind.TheVariants as kinds
-use Rattle.smithy_base.specs.declared.intercept.HookAnswer.{HookAnswer}
+use Rattle.smithy_context.specs.declared.intercept.HookAnswer.{HookAnswer}
 use Rattle.run_grammar.specs.Question.{kind_of_question}
 use Rattle.run_grammar.specs.Entry.{kind_of, pending, can_wait, is_pending}
 use Rattle.run_grammar.specs.Fits.{fits}

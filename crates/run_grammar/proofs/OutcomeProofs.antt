@@ -1,8 +1,8 @@
 -- At the end of a whole run without a stop point an outcome stands.
 use Rattle.std.proofs.Common.{Bool, true, false, cond, zero, suc, ℕ, is_some, List, [], ◌∷◌, ◌≡◌, ◌⊎◌, refl, sym, subst, inl, inr, arith}
-use Rattle.smithy_base.specs.declared.hook.Hook.{Hook}
-use Rattle.smithy_base.specs.declared.hook.Hook.TheVariants as hooks
-use Rattle.smithy_base.specs.declared.kinds.StopPoint.TheVariants as stops
+use Rattle.smithy_types.specs.declared.hook.Hook.{Hook}
+use Rattle.smithy_types.specs.declared.hook.Hook.TheVariants as hooks
+use Rattle.smithy_types.specs.declared.kinds.StopPoint.TheVariants as stops
 use Rattle.run_grammar.specs.declared.kind.Role.{Role}
 use Rattle.run_grammar.specs.declared.kind.Role.TheVariants as roles
 use Rattle.run_grammar.specs.declared.kind.Kind.{Kind}

@@ -1,14 +1,14 @@
 -- One entry, and whether an outcome stands.
 use Rattle.std.proofs.Common.{Bool, true, false, cond, ℕ, Option, None, Some, is_some, List, ◌≡◌, ◌⊎◌, refl, ap, ◌∙◌, inl, inr}
-use Rattle.smithy_base.specs.declared.context.InterceptorContext.{InterceptorContext}
-use Rattle.smithy_base.specs.declared.hook.Hook.{Hook}
-use Rattle.smithy_base.specs.declared.http.HttpRequest.{HttpRequest}
-use Rattle.smithy_base.specs.declared.intercept.Change.{Change}
-use Rattle.smithy_base.specs.declared.intercept.Change.TheVariants as changes
-use Rattle.smithy_base.specs.declared.layer.LayerEntry.{LayerEntry}
-use Rattle.smithy_base.specs.declared.notes.Choice.TheVariants as choices
-use Rattle.smithy_base.specs.declared.kinds.Phase.TheVariants as phases
-use Rattle.smithy_base.specs.Context.{restored_to}
+use Rattle.smithy_context.specs.declared.context.InterceptorContext.{InterceptorContext}
+use Rattle.smithy_types.specs.declared.hook.Hook.{Hook}
+use Rattle.smithy_types.specs.declared.http.HttpRequest.{HttpRequest}
+use Rattle.smithy_context.specs.declared.intercept.Change.{Change}
+use Rattle.smithy_context.specs.declared.intercept.Change.TheVariants as changes
+use Rattle.smithy_context.specs.declared.layer.LayerEntry.{LayerEntry}
+use Rattle.smithy_types.specs.declared.notes.Choice.TheVariants as choices
+use Rattle.smithy_types.specs.declared.kinds.Phase.TheVariants as phases
+use Rattle.smithy_context.specs.Context.{restored_to}
 use Rattle.run_grammar.specs.declared.kind.ConfigureStage.{ConfigureStage}
 use Rattle.run_grammar.specs.declared.kind.ConfigureStage.TheVariants as stages
 use Rattle.run_grammar.specs.declared.kind.Role.{Role}

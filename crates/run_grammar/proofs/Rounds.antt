@@ -1,10 +1,10 @@
 -- Each round of the grammar asks something.
 use Rattle.std.proofs.Common.{Bool, true, false, cond, List, ◌∷◌, ◌≡◌, refl}
 use Rattle.run_grammar.specs.declared.kind.Role.{Role}
-use Rattle.smithy_base.specs.declared.kinds.StopPoint.{StopPoint}
+use Rattle.smithy_types.specs.declared.kinds.StopPoint.{StopPoint}
 use Rattle.run_grammar.specs.declared.kind.Kind.TheVariants.{Start}
 use Rattle.run_grammar.specs.declared.kind.Role.TheVariants.{Attempt, Operation}
-use Rattle.smithy_base.specs.declared.kinds.StopPoint.TheVariants as stops
+use Rattle.smithy_types.specs.declared.kinds.StopPoint.TheVariants as stops
 use Rattle.run_grammar.specs.Standing.{State}
 use Rattle.run_grammar.specs.Grammar.{run, op, loop, round, turn, attempt, armed, arm, timeout_stands, started, grant, grant_round, front, settle, finish}
 use Rattle.run_grammar.specs.Production.{Production, Nothing, Work, ◌⨟◌, Where, Rounds, Again, InAttempt, Under}

@@ -1,11 +1,11 @@
 -- What every word of the operation leaves, every whole run leaves.
 use Rattle.std.proofs.Common.{true, Option, None, Some, is_some, List, [], ◌≡◌, refl, arith}
-use Rattle.smithy_base.specs.declared.fault.Outcome.{Outcome}
-use Rattle.smithy_base.specs.declared.fault.Outcome.TheVariants as outcomes
-use Rattle.smithy_base.specs.declared.hook.Hook.TheVariants as hooks
-use Rattle.smithy_base.specs.declared.kinds.StopPoint.{StopPoint}
-use Rattle.smithy_base.specs.declared.payload.Payload.{Payload}
-use Rattle.smithy_base.specs.Failures.{is_failure}
+use Rattle.smithy_types.specs.declared.fault.Outcome.{Outcome}
+use Rattle.smithy_types.specs.declared.fault.Outcome.TheVariants as outcomes
+use Rattle.smithy_types.specs.declared.hook.Hook.TheVariants as hooks
+use Rattle.smithy_types.specs.declared.kinds.StopPoint.{StopPoint}
+use Rattle.smithy_types.specs.declared.payload.Payload.{Payload}
+use Rattle.smithy_context.specs.Failures.{is_failure}
 use Rattle.run_grammar.specs.declared.kind.ConfigureStage.TheVariants as stages
 use Rattle.run_grammar.specs.declared.kind.Role.{Role}
 use Rattle.run_grammar.specs.declared.kind.Role.TheVariants as roles

@@ -1,7 +1,7 @@
 -- Nothing of its scope follows a deadline that is over.
 use Rattle.std.proofs.Common.{Bool, true, false, cond, Option, None, Some, List, [], ◌∷◌, ◌++◌, ◌≡◌, ◌⊎◌, refl, sym, ap, ◌∙◌, subst, inl, inr}
-use Rattle.smithy_base.specs.declared.hook.Hook.{Hook}
-use Rattle.smithy_base.specs.declared.hook.Hook.TheVariants as hooks
+use Rattle.smithy_types.specs.declared.hook.Hook.{Hook}
+use Rattle.smithy_types.specs.declared.hook.Hook.TheVariants as hooks
 use Rattle.run_grammar.specs.declared.kind.Abandonable.{Abandonable}
 use Rattle.run_grammar.specs.declared.kind.Abandonable.TheVariants as abandoned
 use Rattle.run_grammar.specs.declared.kind.Role.{Role}

@@ -1,7 +1,7 @@
 -- What the watcher's stages say of the entries to come.
 use Rattle.std.proofs.Common.{Bool, true, false, cond, List, [], ◌∷◌, ◌≡◌, ◌⊎◌, refl, sym, ap, ◌∙◌, subst, inl, inr}
-use Rattle.smithy_base.specs.declared.hook.Hook.{Hook}
-use Rattle.smithy_base.specs.declared.hook.Hook.TheVariants as hooks
+use Rattle.smithy_types.specs.declared.hook.Hook.{Hook}
+use Rattle.smithy_types.specs.declared.hook.Hook.TheVariants as hooks
 use Rattle.run_grammar.specs.declared.kind.Role.{Role}
 use Rattle.run_grammar.specs.declared.kind.Role.TheVariants as roles
 use Rattle.run_grammar.specs.declared.kind.Kind.{Kind}

@@ -1,7 +1,7 @@
 -- No whole list is a prefix of another, one question continues a list, and a begun list goes on.
 use Rattle.std.proofs.Common.{sym, true, List, [], ◌∷◌, ◌++◌, ◌≡◌, refl, subst, inl, inr, append_assoc, append-nil}
 use Rattle.run_grammar.specs.declared.answer.Entry.{Entry}
-use Rattle.smithy_base.specs.declared.kinds.StopPoint.{StopPoint}
+use Rattle.smithy_types.specs.declared.kinds.StopPoint.{StopPoint}
 use Rattle.run_grammar.specs.Entry.{kind_of}
 use Rattle.run_grammar.specs.Fits.{fits}
 use Rattle.run_grammar.specs.Standing.{State, standing, step, asked, WellHanded}

@@ -1,6 +1,6 @@
 -- Lists that break a law, and so are not whole.
 use Rattle.std.specs.Prelude.{true, List, [], ◌∷◌, ◌++◌, ◌≡◌}
-use Rattle.smithy_base.specs.declared.kinds.StopPoint.{StopPoint}
+use Rattle.smithy_types.specs.declared.kinds.StopPoint.{StopPoint}
 use Rattle.run_grammar.specs.declared.answer.Entry.{Entry}
 use Rattle.run_grammar.specs.Entry.{kind_of, is_wait_of_deadline, ready}
 use Rattle.run_grammar.specs.Standing.{State}

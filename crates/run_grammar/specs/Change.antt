@@ -3,32 +3,32 @@
 -- aws-smithy-runtime-api's interceptors.
 use Rattle.std.specs.Prelude.{Bool, false, ℕ, ◌+◌, ◌-◌, ◌^◌, min, Option, None, Some, List, ◌++◌, codes, cond}
 use Rattle.std.specs.Fmt.{decimal}
-use Rattle.smithy_base.specs.declared.config.TimeoutConfig.{TimeoutConfig}
-use Rattle.smithy_base.specs.declared.context.InterceptorContext.{InterceptorContext}
-use Rattle.smithy_base.specs.declared.fault.FaultKind.{FaultKind}
-use Rattle.smithy_base.specs.declared.fault.FaultKind.TheVariants as faults
-use Rattle.smithy_base.specs.declared.fault.Outcome.{Outcome}
-use Rattle.smithy_base.specs.declared.hook.Hook.{Hook}
+use Rattle.smithy_types.specs.declared.config.TimeoutConfig.{TimeoutConfig}
+use Rattle.smithy_context.specs.declared.context.InterceptorContext.{InterceptorContext}
+use Rattle.smithy_types.specs.declared.fault.FaultKind.{FaultKind}
+use Rattle.smithy_types.specs.declared.fault.FaultKind.TheVariants as faults
+use Rattle.smithy_types.specs.declared.fault.Outcome.{Outcome}
+use Rattle.smithy_types.specs.declared.hook.Hook.{Hook}
 use Rattle.run_grammar.specs.Writes.{writes_input, writes_request, writes_response, writes_outcome}
-use Rattle.smithy_base.specs.declared.http.Body.TheVariants as bodies
-use Rattle.smithy_base.specs.declared.http.HttpRequest.{HttpRequest}
-use Rattle.smithy_base.specs.declared.http.HttpResponse.{HttpResponse}
-use Rattle.smithy_base.specs.declared.intercept.Change.{Change}
-use Rattle.smithy_base.specs.declared.intercept.Change.TheVariants as changes
-use Rattle.smithy_base.specs.declared.intercept.HookAnswer.{HookAnswer}
-use Rattle.smithy_base.specs.declared.intercept.HookView.{HookView}
-use Rattle.smithy_base.specs.declared.kinds.Phase.{Phase}
-use Rattle.smithy_base.specs.declared.kinds.Phase.TheVariants as phases
-use Rattle.smithy_base.specs.declared.layer.LayerEntry.{LayerEntry}
-use Rattle.smithy_base.specs.declared.notes.Choice.{Choice}
-use Rattle.smithy_base.specs.declared.notes.Choice.TheVariants as choices
-use Rattle.smithy_base.specs.declared.payload.Payload.{Payload}
-use Rattle.smithy_base.specs.declared.setting.Setting.{Setting}
-use Rattle.smithy_base.specs.declared.setting.Setting.TheVariants as settings
-use Rattle.smithy_base.specs.declared.setting.SettingKey.TheVariants as keys
-use Rattle.smithy_base.specs.StandingLayers.{StandingLayers}
-use Rattle.smithy_base.specs.Settings.{loaded, with_layer, with_merged}
-use Rattle.smithy_base.specs.Context.{checkpointed, failed_with, restored}
+use Rattle.smithy_types.specs.declared.http.Body.TheVariants as bodies
+use Rattle.smithy_types.specs.declared.http.HttpRequest.{HttpRequest}
+use Rattle.smithy_types.specs.declared.http.HttpResponse.{HttpResponse}
+use Rattle.smithy_context.specs.declared.intercept.Change.{Change}
+use Rattle.smithy_context.specs.declared.intercept.Change.TheVariants as changes
+use Rattle.smithy_context.specs.declared.intercept.HookAnswer.{HookAnswer}
+use Rattle.smithy_context.specs.declared.intercept.HookView.{HookView}
+use Rattle.smithy_types.specs.declared.kinds.Phase.{Phase}
+use Rattle.smithy_types.specs.declared.kinds.Phase.TheVariants as phases
+use Rattle.smithy_context.specs.declared.layer.LayerEntry.{LayerEntry}
+use Rattle.smithy_types.specs.declared.notes.Choice.{Choice}
+use Rattle.smithy_types.specs.declared.notes.Choice.TheVariants as choices
+use Rattle.smithy_types.specs.declared.payload.Payload.{Payload}
+use Rattle.smithy_context.specs.declared.setting.Setting.{Setting}
+use Rattle.smithy_context.specs.declared.setting.Setting.TheVariants as settings
+use Rattle.smithy_context.specs.declared.setting.SettingKey.TheVariants as keys
+use Rattle.smithy_context.specs.StandingLayers.{StandingLayers}
+use Rattle.smithy_context.specs.Settings.{loaded, with_layer, with_merged}
+use Rattle.smithy_context.specs.Context.{checkpointed, failed_with, restored}
 use Rattle.run_grammar.specs.declared.kind.ConfigureStage.{ConfigureStage}
 use Rattle.run_grammar.specs.declared.kind.ConfigureStage.TheVariants as stages
 use Rattle.run_grammar.specs.declared.kind.Role.{Role}

@@ -1,11 +1,11 @@
 -- What an entry's question and answer are.
 use Rattle.std.specs.Prelude.{Bool, true, false, cond, Option, Some, is_some}
 use Rattle.run_grammar.specs.Writes.{writes_outcome}
-use Rattle.smithy_base.specs.declared.intercept.Change.{Change}
-use Rattle.smithy_base.specs.declared.intercept.Change.TheVariants as changes
-use Rattle.smithy_base.specs.declared.intercept.HookAnswer.{HookAnswer}
-use Rattle.smithy_base.specs.declared.fault.Outcome.{Outcome}
-use Rattle.smithy_base.specs.declared.fault.Outcome.TheVariants as outcomes
+use Rattle.smithy_context.specs.declared.intercept.Change.{Change}
+use Rattle.smithy_context.specs.declared.intercept.Change.TheVariants as changes
+use Rattle.smithy_context.specs.declared.intercept.HookAnswer.{HookAnswer}
+use Rattle.smithy_types.specs.declared.fault.Outcome.{Outcome}
+use Rattle.smithy_types.specs.declared.fault.Outcome.TheVariants as outcomes
 use Rattle.run_grammar.specs.declared.kind.Role.{Role}
 use Rattle.run_grammar.specs.declared.kind.Role.TheVariants as roles
 use Rattle.run_grammar.specs.declared.kind.Abandonable.TheVariants as abandoned

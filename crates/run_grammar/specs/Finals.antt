@@ -1,7 +1,7 @@
 -- Both finalizers once.
 use Rattle.std.specs.Prelude.{Bool, true, false, cond, List, [], ◌∷◌, ◌++◌, ◌≡◌}
-use Rattle.smithy_base.specs.declared.hook.Hook.TheVariants as hooks
-use Rattle.smithy_base.specs.declared.kinds.StopPoint.{StopPoint}
+use Rattle.smithy_types.specs.declared.hook.Hook.TheVariants as hooks
+use Rattle.smithy_types.specs.declared.kinds.StopPoint.{StopPoint}
 use Rattle.run_grammar.specs.declared.kind.Kind.{Kind}
 use Rattle.run_grammar.specs.declared.kind.Kind.TheVariants as kinds
 use Rattle.run_grammar.specs.declared.answer.Answer.{Answer}

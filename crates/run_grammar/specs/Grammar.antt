@@ -2,11 +2,11 @@
 -- orchestrator.rs from which the rule below it comes, where no other file is named.
 use Rattle.std.specs.Prelude.{Bool, true, false, Option, None, Some, is_some, cond, List, [], ◌∷◌}
 use Rattle.run_grammar.specs.declared.kind.Role.{Role}
-use Rattle.smithy_base.specs.declared.hook.Hook.{Hook}
+use Rattle.smithy_types.specs.declared.hook.Hook.{Hook}
 use Rattle.run_grammar.specs.declared.kind.Kind.{Kind}
 use Rattle.run_grammar.specs.declared.answer.Answer.{Answer}
 use Rattle.run_grammar.specs.declared.answer.Entry.{Entry}
-use Rattle.smithy_base.specs.declared.kinds.StopPoint.{StopPoint}
+use Rattle.smithy_types.specs.declared.kinds.StopPoint.{StopPoint}
 use Rattle.run_grammar.specs.Entry.{kind_of, fails, same_role}
 use Rattle.run_grammar.specs.Standing.{State}
 use Rattle.run_grammar.specs.Production.{Production, Nothing, Work, ◌⨟◌, Where, Rounds, Again, InAttempt, Under}
@@ -14,10 +14,10 @@ use Rattle.run_grammar.specs.declared.kind.Kind.TheVariants as kinds
 use Rattle.run_grammar.specs.declared.kind.Role.TheVariants as roles
 use Rattle.run_grammar.specs.declared.kind.ConfigureStage.TheVariants as stages
 use Rattle.run_grammar.specs.declared.answer.Answer.TheVariants as answers
-use Rattle.smithy_base.specs.declared.hook.Hook.TheVariants as hooks
-use Rattle.smithy_base.specs.declared.kinds.StopPoint.TheVariants as stops
-use Rattle.smithy_base.specs.declared.notes.Choice.TheVariants as choices
-use Rattle.smithy_base.specs.Failures.{is_failure}
+use Rattle.smithy_types.specs.declared.hook.Hook.TheVariants as hooks
+use Rattle.smithy_types.specs.declared.kinds.StopPoint.TheVariants as stops
+use Rattle.smithy_types.specs.declared.notes.Choice.TheVariants as choices
+use Rattle.smithy_context.specs.Failures.{is_failure}
 use Rattle.run_grammar.specs.Change.{loads_body, nanos_for}
 
 -- tests of the last entry

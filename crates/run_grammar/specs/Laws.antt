@@ -3,7 +3,7 @@ use Rattle.std.specs.Prelude.{true, List, [], ◌∷◌, ◌++◌, ◌≡◌, �
 use Rattle.run_grammar.specs.declared.answer.Answer.{Answer}
 use Rattle.run_grammar.specs.declared.question.Question.{Question}
 use Rattle.run_grammar.specs.declared.answer.Entry.{Entry}
-use Rattle.smithy_base.specs.declared.kinds.StopPoint.{StopPoint}
+use Rattle.smithy_types.specs.declared.kinds.StopPoint.{StopPoint}
 use Rattle.run_grammar.specs.Entry.{kind_of, entry}
 use Rattle.run_grammar.specs.Fits.{fits}
 use Rattle.run_grammar.specs.Standing.{State, WellHanded}

@@ -1,16 +1,16 @@
 -- The sample runs: what each is, call by call, and what it comes to.
 use Rattle.std.specs.Prelude.{ℕ, Option, None, Some, List, [], ◌∷◌, ◌++◌}
-use Rattle.smithy_base.specs.declared.fault.Fault.{Fault}
-use Rattle.smithy_base.specs.declared.fault.FaultKind.{FaultKind}
-use Rattle.smithy_base.specs.declared.fault.FaultKind.TheVariants as faults
-use Rattle.smithy_base.specs.declared.fault.Outcome.{Outcome}
-use Rattle.smithy_base.specs.declared.fault.Outcome.TheVariants as outcomes
-use Rattle.smithy_base.specs.declared.hook.Hook.TheVariants as hooks
-use Rattle.smithy_base.specs.declared.http.Body.TheVariants as bodies
-use Rattle.smithy_base.specs.declared.http.HttpRequest.{HttpRequest}
-use Rattle.smithy_base.specs.declared.kinds.ConnectorKind.{ConnectorKind}
-use Rattle.smithy_base.specs.declared.kinds.StopPoint.TheVariants as stops
-use Rattle.smithy_base.specs.declared.notes.Choice.TheVariants as choices
+use Rattle.smithy_types.specs.declared.fault.Fault.{Fault}
+use Rattle.smithy_types.specs.declared.fault.FaultKind.{FaultKind}
+use Rattle.smithy_types.specs.declared.fault.FaultKind.TheVariants as faults
+use Rattle.smithy_types.specs.declared.fault.Outcome.{Outcome}
+use Rattle.smithy_types.specs.declared.fault.Outcome.TheVariants as outcomes
+use Rattle.smithy_types.specs.declared.hook.Hook.TheVariants as hooks
+use Rattle.smithy_types.specs.declared.http.Body.TheVariants as bodies
+use Rattle.smithy_types.specs.declared.http.HttpRequest.{HttpRequest}
+use Rattle.smithy_types.specs.declared.kinds.ConnectorKind.{ConnectorKind}
+use Rattle.smithy_types.specs.declared.kinds.StopPoint.TheVariants as stops
+use Rattle.smithy_types.specs.declared.notes.Choice.TheVariants as choices
 use Rattle.run_grammar.specs.declared.kind.Abandonable.TheVariants as abandoned
 use Rattle.run_grammar.specs.declared.kind.ConfigureStage.TheVariants as stages
 use Rattle.run_grammar.specs.declared.kind.Kind.TheVariants as kinds

@@ -1,8 +1,8 @@
 -- Nothing of its scope follows a deadline that is over.
 use Rattle.std.specs.Prelude.{Bool, true, false, cond, Option, None, Some, List, [], ◌∷◌, ◌++◌, ◌≡◌}
-use Rattle.smithy_base.specs.declared.hook.Hook.{Hook}
-use Rattle.smithy_base.specs.declared.hook.Hook.TheVariants as hooks
-use Rattle.smithy_base.specs.declared.kinds.StopPoint.{StopPoint}
+use Rattle.smithy_types.specs.declared.hook.Hook.{Hook}
+use Rattle.smithy_types.specs.declared.hook.Hook.TheVariants as hooks
+use Rattle.smithy_types.specs.declared.kinds.StopPoint.{StopPoint}
 use Rattle.run_grammar.specs.declared.kind.Abandonable.{Abandonable}
 use Rattle.run_grammar.specs.declared.kind.Abandonable.TheVariants as abandoned
 use Rattle.run_grammar.specs.declared.kind.Role.TheVariants as roles

@@ -1,7 +1,7 @@
 -- What stands after entries, what a question hands on, and lists whose questions hand on what stands.
 use Rattle.std.specs.Prelude.{Bool, true, false, Option, None, Some, List, [], ◌∷◌, ◌≡◌}
-use Rattle.smithy_base.specs.Context.{opened}
-use Rattle.smithy_base.specs.declared.payload.Payload.{Payload}
+use Rattle.smithy_context.specs.Context.{opened}
+use Rattle.smithy_types.specs.declared.payload.Payload.{Payload}
 use Rattle.run_grammar.specs.declared.kind.Kind.{Kind}
 use Rattle.run_grammar.specs.declared.kind.Kind.TheVariants as kinds
 use Rattle.run_grammar.specs.declared.question.Question.{Question}

@@ -1,8 +1,8 @@
 -- Which part of the run a hook may write (the contexts that aws-smithy-runtime-api's `Intercept` hands its
 -- methods).
 use Rattle.std.specs.Prelude.{Bool, true, false}
-use Rattle.smithy_base.specs.declared.hook.Hook.{Hook}
-use Rattle.smithy_base.specs.declared.hook.Hook.TheVariants.{ModifyBeforeSerialization, ModifyBeforeRetryLoop, ModifyBeforeSigning, ModifyBeforeTransmit, ModifyBeforeDeserialization, ModifyBeforeAttemptCompletion, ModifyBeforeCompletion}
+use Rattle.smithy_types.specs.declared.hook.Hook.{Hook}
+use Rattle.smithy_types.specs.declared.hook.Hook.TheVariants.{ModifyBeforeSerialization, ModifyBeforeRetryLoop, ModifyBeforeSigning, ModifyBeforeTransmit, ModifyBeforeDeserialization, ModifyBeforeAttemptCompletion, ModifyBeforeCompletion}
 
 abbrev pub writes_input : Hook → Bool
 writes_input ModifyBeforeSerialization = true

@@ -1,9 +1,10 @@
 //! What a world answers.
 ghost use Rattle.std.specs.Prelude.{◌≡◌};
 
-use smithy_base::{
-    Blob, Choice, ChooseNote, ConnectorKind, DecideNote, Endpoint, HookAnswer, HttpRequest,
-    HttpResponse, Identity, Layer, Outcome, Shared, Text,
+use smithy_context::{HookAnswer, Layer};
+use smithy_types::{
+    Blob, Choice, ChooseNote, ConnectorKind, DecideNote, Endpoint, HttpRequest, HttpResponse,
+    Identity, Outcome, Shared, Text,
 };
 use std::alloc::AllocError;
 

@@ -5,10 +5,8 @@ ghost use Rattle.run_grammar.specs.Writes.{writes_input, writes_request, writes_
 
 use crate::standing::{copy_endpoint, copy_text};
 use crate::{Answer, Chosen, ConfigureStage, Kind, Role, Standing};
-use smithy_base::{
-    Body, Change, Choice, Fault, FaultKind, Hook, HookAnswer, Layer, OutOfMemory, Outcome, Phase,
-    Text,
-};
+use smithy_context::{Change, HookAnswer, Layer};
+use smithy_types::{Body, Choice, Fault, FaultKind, Hook, OutOfMemory, Outcome, Phase, Text};
 use std::alloc::Global;
 
 const ABSENT: &'static str = "absent";

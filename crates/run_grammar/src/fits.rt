@@ -5,7 +5,8 @@ ghost use Rattle.run_grammar.specs.Entry.{hook_fails, sets_failure, writes_failu
 
 use crate::apply::writes_outcome;
 use crate::{Answer, Kind, Role};
-use smithy_base::{Change, HookAnswer, Outcome};
+use smithy_context::{Change, HookAnswer};
+use smithy_types::Outcome;
 
 impl Answer {
     /// Whether the answer fits a question of this kind.

@@ -1,6 +1,6 @@
 //! What kinds of question there are.
 
-use smithy_base::Hook;
+use smithy_types::Hook;
 
 /// A step of the configuration.
 #[derive(Clone, Copy, Debug, PartialEq, Eq)]

@@ -1,6 +1,6 @@
 //! What holds of all runs. Each law is the contract of a function without a body.
 ghost use Rattle.std.specs.Prelude.{List, ◌↔◌};
-ghost use Rattle.smithy_base.specs.declared.kinds.StopPoint.{StopPoint};
+ghost use Rattle.smithy_types.specs.declared.kinds.StopPoint.{StopPoint};
 ghost use Rattle.run_grammar.specs.declared.answer.Entry.{Entry};
 ghost use Rattle.run_grammar.specs.Standing.{State};
 ghost use Rattle.run_grammar.specs.Grammar.{run};

@@ -14,5 +14,5 @@ pub mod standing;
 pub use answer::{Answer, Chosen, Entry};
 pub use kind::{Abandonable, ConfigureStage, Kind, Role};
 pub use question::Question;
-pub use smithy_base::StopPoint;
+pub use smithy_types::StopPoint;
 pub use standing::Standing;

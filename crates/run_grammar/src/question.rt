@@ -3,10 +3,8 @@ ghost use Rattle.std.specs.Prelude.{◌≡◌};
 ghost use Rattle.run_grammar.specs.Question.{kind_of_question, nanos_of};
 
 use crate::kind::{Abandonable, ConfigureStage, Kind, Role};
-use smithy_base::{
-    Endpoint, HookView, HttpRequest, HttpResponse, Identity, Outcome, Payload, Settings, Shared,
-    Text,
-};
+use smithy_context::{HookView, Settings};
+use smithy_types::{Endpoint, HttpRequest, HttpResponse, Identity, Outcome, Payload, Shared, Text};
 
 /// A question with the parts of the run that it hands on. A part that doesn't stand is None.
 pub enum Question {
@@ -15,7 +13,7 @@ pub enum Question {
         settings: Settings,
     },
     Hook {
-        hook: smithy_base::Hook,
+        hook: smithy_types::Hook,
         view: HookView,
     },
     Serialize {

@@ -5,11 +5,9 @@ ghost use Rattle.run_grammar.specs.Standing.{starting, asks, on_request_way, on_
 
 use crate::Question;
 use crate::kind::{Kind, Role};
-use smithy_base::intercept::{copy_outcome, copy_request, copy_response};
-use smithy_base::{
-    Endpoint, Identity, InterceptorContext, OutOfMemory, Payload, Setting, SettingKey, Settings,
-    Shared, Text, TimeoutConfig,
-};
+use smithy_context::intercept::{copy_outcome, copy_request, copy_response};
+use smithy_context::{InterceptorContext, Setting, SettingKey, Settings};
+use smithy_types::{Endpoint, Identity, OutOfMemory, Payload, Shared, Text, TimeoutConfig};
 use std::alloc::AllocError;
 
 /// What stands in a run: the context that interceptors see, and what only the engine reads.

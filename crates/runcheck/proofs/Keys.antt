@@ -1,8 +1,8 @@
 -- Keys that are added one after another.
 use Rattle.std.proofs.Common.{◌≡◌, ℕ, suc, ◌+◌, ◌<◌, ◌≤◌, List, ◌∷◌, length, drop, get_or, ap, ◌∙◌, sym, drop-cons, add-one}
 use Rattle.std.proofs.lemmas.List.{drop_all}
-use Rattle.smithy_base.specs.declared.layer.LayerEntry.{LayerEntry}
-use Rattle.smithy_base.specs.declared.setting.SettingKey.{SettingKey}
+use Rattle.smithy_context.specs.declared.layer.LayerEntry.{LayerEntry}
+use Rattle.smithy_context.specs.declared.setting.SettingKey.{SettingKey}
 use Rattle.runcheck.specs.Limits.{layer_keys, with_key, with_keys}
 
 -- an entry more

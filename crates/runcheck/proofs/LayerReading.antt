@@ -2,8 +2,8 @@
 use Rattle.std.proofs.Common.{◌≡◌, ℕ, zero, suc, ◌+◌, ◌-◌, ◌<◌, ◌≤◌, List, [], ◌∷◌, length, drop, take, Bool, true, false, nat_lt, if◌then◌else◌, get_or, Option, Some, None, refl, arith, ap, ◌∙◌, sym}
 use Rattle.serde_json.specs.View.{view, items_view}
 use Rattle.serde_json.specs.declared.value.Value.{Value}
-use Rattle.smithy_base.specs.Layer.{put_entry, merged}
-use Rattle.smithy_base.specs.declared.layer.LayerEntry.{LayerEntry}
+use Rattle.smithy_context.specs.Layer.{put_entry, merged}
+use Rattle.smithy_context.specs.declared.layer.LayerEntry.{LayerEntry}
 use Rattle.runcheck.specs.Lists.{list_of}
 use Rattle.runcheck.specs.Reading.{◌>>=◌, Fails}
 use Rattle.runcheck.specs.SettingReadings.{put_kept, layer_entry_at, layer_items}

@@ -1,8 +1,8 @@
 -- Answers that are printed are read again.
 use Rattle.std.proofs.Common.{◌≡◌, true, codes, Option, Some, None, refl}
-use Rattle.smithy_base.specs.declared.notes.Choice.{Choice}
-use Rattle.smithy_base.specs.declared.notes.Choice.TheVariants as choices
-use Rattle.smithy_base.specs.declared.notes.DecideNote.{DecideNote}
+use Rattle.smithy_types.specs.declared.notes.Choice.{Choice}
+use Rattle.smithy_types.specs.declared.notes.Choice.TheVariants as choices
+use Rattle.smithy_types.specs.declared.notes.DecideNote.{DecideNote}
 use Rattle.run_grammar.specs.Fits.{fits, fits_configure, fits_hook, fits_request, fits_load, fits_initial, fits_start, fits_wait, fits_choose, fits_endpoint, fits_transmit, fits_stream, fits_body, fits_deserialize, fits_decide, fits_abandon, fits_park}
 use Rattle.run_grammar.specs.declared.answer.Answer.{Answer}
 use Rattle.run_grammar.specs.declared.answer.Answer.TheVariants as answers

@@ -10,12 +10,12 @@ use Rattle.http_header.specs.FieldValue.{FieldValue, plain_value}
 use Rattle.http_header.specs.HeaderMap.{update, append, append_all, entry_pairs, pairs}
 use Rattle.http_header.specs.Token.{is_value_byte, lowercase}
 use Rattle.serde_json.specs.Data.{string, object, Members}
-use Rattle.smithy_base.specs.HeaderList.{HeaderList}
-use Rattle.smithy_base.specs.declared.http.Body.{Body}
-use Rattle.smithy_base.specs.declared.http.Body.TheVariants as bodies
-use Rattle.smithy_base.specs.declared.http.HttpRequest.{HttpRequest}
-use Rattle.smithy_base.specs.declared.http.HttpResponse.{HttpResponse}
-use Rattle.smithy_base.specs.declared.payload.Payload.{Payload}
+use Rattle.smithy_types.specs.HeaderList.{HeaderList}
+use Rattle.smithy_types.specs.declared.http.Body.{Body}
+use Rattle.smithy_types.specs.declared.http.Body.TheVariants as bodies
+use Rattle.smithy_types.specs.declared.http.HttpRequest.{HttpRequest}
+use Rattle.smithy_types.specs.declared.http.HttpResponse.{HttpResponse}
+use Rattle.smithy_types.specs.declared.payload.Payload.{Payload}
 use Rattle.runcheck.specs.Forms.{starts, first_says, says, word_at, tagged_at, blob_at}
 use Rattle.runcheck.specs.Lists.{fresh}
 use Rattle.runcheck.specs.Readings.{payload_at, Header, is_field_name, field_name, field_value, header_at, headers_at, sent_at, body_at, request_at, response_at}

@@ -7,21 +7,21 @@ use Rattle.std.specs.Cmp.Lexicographic.{pointwise}
 use Rattle.std.specs.List.{list_all, list_any, position, position_or_len}
 use Rattle.serde_json.specs.Data.{null}
 use Rattle.serde_json.specs.View.{items_of}
-use Rattle.smithy_base.specs.Layer.{is_at, placed, put_entry, merged}
-use Rattle.smithy_base.specs.Setting.{key_of, same_key}
-use Rattle.smithy_base.specs.declared.config.RetryConfig.{RetryConfig}
-use Rattle.smithy_base.specs.declared.config.RetrySpec.{RetrySpec}
-use Rattle.smithy_base.specs.declared.config.RetrySpecVersion.{RetrySpecVersion}
-use Rattle.smithy_base.specs.declared.config.RetrySpecVersion.TheVariants as versions
-use Rattle.smithy_base.specs.declared.config.StalledStreamProtectionConfig.{StalledStreamProtectionConfig}
-use Rattle.smithy_base.specs.declared.config.TimeoutConfig.{TimeoutConfig}
-use Rattle.smithy_base.specs.declared.layer.LayerEntry.{LayerEntry}
-use Rattle.smithy_base.specs.declared.partition.CustomPartition.{CustomPartition}
-use Rattle.smithy_base.specs.declared.partition.RetryPartition.{RetryPartition}
-use Rattle.smithy_base.specs.declared.setting.Setting.{Setting}
-use Rattle.smithy_base.specs.declared.setting.Setting.TheVariants as settings
-use Rattle.smithy_base.specs.declared.setting.SettingKey.{SettingKey}
-use Rattle.smithy_base.specs.declared.setting.SettingKey.TheVariants as keys
+use Rattle.smithy_context.specs.Layer.{is_at, placed, put_entry, merged}
+use Rattle.smithy_context.specs.Setting.{key_of, same_key}
+use Rattle.smithy_types.specs.declared.config.RetryConfig.{RetryConfig}
+use Rattle.smithy_types.specs.declared.config.RetrySpec.{RetrySpec}
+use Rattle.smithy_types.specs.declared.config.RetrySpecVersion.{RetrySpecVersion}
+use Rattle.smithy_types.specs.declared.config.RetrySpecVersion.TheVariants as versions
+use Rattle.smithy_types.specs.declared.config.StalledStreamProtectionConfig.{StalledStreamProtectionConfig}
+use Rattle.smithy_types.specs.declared.config.TimeoutConfig.{TimeoutConfig}
+use Rattle.smithy_context.specs.declared.layer.LayerEntry.{LayerEntry}
+use Rattle.smithy_types.specs.declared.partition.CustomPartition.{CustomPartition}
+use Rattle.smithy_types.specs.declared.partition.RetryPartition.{RetryPartition}
+use Rattle.smithy_context.specs.declared.setting.Setting.{Setting}
+use Rattle.smithy_context.specs.declared.setting.Setting.TheVariants as settings
+use Rattle.smithy_context.specs.declared.setting.SettingKey.{SettingKey}
+use Rattle.smithy_context.specs.declared.setting.SettingKey.TheVariants as keys
 use Rattle.runcheck.specs.Forms.{word_at, optional_at, true_at, texts_at, blob_at, hex_at, only_at}
 use Rattle.runcheck.specs.Lists.{list_of, fresh, name_at, named_once}
 use Rattle.runcheck.specs.SettingReadings.{timeouts_at, spec_at, retry_at, stall_at, default_partition, setting_at, user_key, front_key, back_key, key_of_text, layer_entry_at, layer_at}

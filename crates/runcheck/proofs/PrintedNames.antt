@@ -1,14 +1,14 @@
 -- Names that are printed are read again.
 use Rattle.std.proofs.Common.{◌≡◌, Some, refl}
 use Rattle.serde_json.specs.Data.{string}
-use Rattle.smithy_base.specs.declared.config.ReconnectMode.{ReconnectMode}
-use Rattle.smithy_base.specs.declared.config.ReconnectMode.TheVariants as reconnects
-use Rattle.smithy_base.specs.declared.config.RetryMode.{RetryMode}
-use Rattle.smithy_base.specs.declared.config.RetryMode.TheVariants as modes
-use Rattle.smithy_base.specs.declared.hook.Hook.{Hook}
-use Rattle.smithy_base.specs.declared.hook.Hook.TheVariants as hooks
-use Rattle.smithy_base.specs.declared.kinds.ErrorKind.{ErrorKind}
-use Rattle.smithy_base.specs.declared.kinds.ErrorKind.TheVariants as errors
+use Rattle.smithy_types.specs.declared.config.ReconnectMode.{ReconnectMode}
+use Rattle.smithy_types.specs.declared.config.ReconnectMode.TheVariants as reconnects
+use Rattle.smithy_types.specs.declared.config.RetryMode.{RetryMode}
+use Rattle.smithy_types.specs.declared.config.RetryMode.TheVariants as modes
+use Rattle.smithy_types.specs.declared.hook.Hook.{Hook}
+use Rattle.smithy_types.specs.declared.hook.Hook.TheVariants as hooks
+use Rattle.smithy_types.specs.declared.kinds.ErrorKind.{ErrorKind}
+use Rattle.smithy_types.specs.declared.kinds.ErrorKind.TheVariants as errors
 use Rattle.run_grammar.specs.declared.kind.Abandonable.{Abandonable}
 use Rattle.run_grammar.specs.declared.kind.Abandonable.TheVariants as abandoned
 use Rattle.run_grammar.specs.declared.kind.ConfigureStage.{ConfigureStage}

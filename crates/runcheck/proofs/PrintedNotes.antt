@@ -2,20 +2,20 @@
 use Rattle.std.proofs.Common.{◌≡◌, ℕ, List, [], ◌∷◌, Bool, true, false, ◌&&◌, is_none, Option, Some, None, refl, ap}
 use Rattle.std.proofs.lemmas.Bool.{and_parts}
 use Rattle.serde_json.specs.Data.{null}
-use Rattle.smithy_base.specs.declared.identity.Endpoint.{Endpoint}
-use Rattle.smithy_base.specs.declared.intercept.Change.{Change}
-use Rattle.smithy_base.specs.declared.intercept.HookAnswer.{HookAnswer}
-use Rattle.smithy_base.specs.declared.layer.LayerEntry.{LayerEntry}
-use Rattle.smithy_base.specs.declared.notes.Choice.{Choice}
-use Rattle.smithy_base.specs.declared.notes.Choice.TheVariants as choices
-use Rattle.smithy_base.specs.declared.notes.ChooseNote.{ChooseNote}
-use Rattle.smithy_base.specs.declared.notes.ChooseNote.TheVariants as choose_notes
-use Rattle.smithy_base.specs.declared.notes.DecideNote.{DecideNote}
-use Rattle.smithy_base.specs.declared.notes.Reason.{Reason}
-use Rattle.smithy_base.specs.declared.notes.Reason.TheVariants as reasons
-use Rattle.smithy_base.specs.declared.notes.RetryAction.{RetryAction}
-use Rattle.smithy_base.specs.declared.notes.RetryAction.TheVariants as actions
-use Rattle.smithy_base.specs.declared.sums.Sums.{Sums}
+use Rattle.smithy_types.specs.declared.identity.Endpoint.{Endpoint}
+use Rattle.smithy_context.specs.declared.intercept.Change.{Change}
+use Rattle.smithy_context.specs.declared.intercept.HookAnswer.{HookAnswer}
+use Rattle.smithy_context.specs.declared.layer.LayerEntry.{LayerEntry}
+use Rattle.smithy_types.specs.declared.notes.Choice.{Choice}
+use Rattle.smithy_types.specs.declared.notes.Choice.TheVariants as choices
+use Rattle.smithy_types.specs.declared.notes.ChooseNote.{ChooseNote}
+use Rattle.smithy_types.specs.declared.notes.ChooseNote.TheVariants as choose_notes
+use Rattle.smithy_types.specs.declared.notes.DecideNote.{DecideNote}
+use Rattle.smithy_types.specs.declared.notes.Reason.{Reason}
+use Rattle.smithy_types.specs.declared.notes.Reason.TheVariants as reasons
+use Rattle.smithy_types.specs.declared.notes.RetryAction.{RetryAction}
+use Rattle.smithy_types.specs.declared.notes.RetryAction.TheVariants as actions
+use Rattle.smithy_types.specs.declared.sums.Sums.{Sums}
 use Rattle.run_grammar.specs.declared.answer.Chosen.{Chosen}
 use Rattle.runcheck.specs.AnswerReadings.{choose_note_at, choice_at, indicated_at, action_at, reason_at, sums_at, note_at, hooked_at, done, hook_answer_at, chosen_at}
 use Rattle.runcheck.specs.Forms.{starts, first_says, says, word_at, tagged_at, optional_at}

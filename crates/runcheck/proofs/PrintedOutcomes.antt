@@ -1,19 +1,19 @@
 -- Identities, endpoints, failures, outcomes and changes that are printed are read again.
 use Rattle.std.proofs.Common.{◌≡◌, ℕ, List, true, Option, Some, None, refl}
 use Rattle.serde_json.specs.Data.{null}
-use Rattle.smithy_base.specs.declared.fault.Fault.{Fault}
-use Rattle.smithy_base.specs.declared.fault.FaultKind.{FaultKind}
-use Rattle.smithy_base.specs.declared.fault.FaultKind.TheVariants as faults
-use Rattle.smithy_base.specs.declared.fault.Outcome.{Outcome}
-use Rattle.smithy_base.specs.declared.fault.Outcome.TheVariants as outcomes
-use Rattle.smithy_base.specs.declared.identity.Endpoint.{Endpoint}
-use Rattle.smithy_base.specs.declared.identity.EndpointHeader.{EndpointHeader}
-use Rattle.smithy_base.specs.declared.identity.Identity.{Identity}
-use Rattle.smithy_base.specs.declared.intercept.Change.{Change}
-use Rattle.smithy_base.specs.declared.intercept.Change.TheVariants as changes
-use Rattle.smithy_base.specs.declared.kinds.ConnectorKind.{ConnectorKind}
-use Rattle.smithy_base.specs.declared.kinds.ConnectorKind.TheVariants as connectors
-use Rattle.smithy_base.specs.declared.kinds.ErrorKind.{ErrorKind}
+use Rattle.smithy_types.specs.declared.fault.Fault.{Fault}
+use Rattle.smithy_types.specs.declared.fault.FaultKind.{FaultKind}
+use Rattle.smithy_types.specs.declared.fault.FaultKind.TheVariants as faults
+use Rattle.smithy_types.specs.declared.fault.Outcome.{Outcome}
+use Rattle.smithy_types.specs.declared.fault.Outcome.TheVariants as outcomes
+use Rattle.smithy_types.specs.declared.identity.Endpoint.{Endpoint}
+use Rattle.smithy_types.specs.declared.identity.EndpointHeader.{EndpointHeader}
+use Rattle.smithy_types.specs.declared.identity.Identity.{Identity}
+use Rattle.smithy_context.specs.declared.intercept.Change.{Change}
+use Rattle.smithy_context.specs.declared.intercept.Change.TheVariants as changes
+use Rattle.smithy_types.specs.declared.kinds.ConnectorKind.{ConnectorKind}
+use Rattle.smithy_types.specs.declared.kinds.ConnectorKind.TheVariants as connectors
+use Rattle.smithy_types.specs.declared.kinds.ErrorKind.{ErrorKind}
 use Rattle.runcheck.specs.Forms.{starts, first_says, says, word_at, tagged_at, optional_at}
 use Rattle.runcheck.specs.Readings.{identity_at, endpoint_header_at, endpoint_at, error_kind_at, connector_at, failed_by, operation_fault_at, connector_fault_at, plain_fault_at, fault_at, outcome_at, change_at}
 use Rattle.runcheck.specs.Spellable.{none_or, bytes_spellable, fault_kind_spellable, outcome_spellable, change_spellable}

@@ -3,9 +3,9 @@ use Rattle.std.proofs.Common.{◌≡◌, ℕ, ◌^◌, List, codes, true, ◌||�
 use Rattle.std.proofs.lemmas.Bool.{and_from}
 use Rattle.serde_json.specs.Data.{Data}
 use Rattle.serde_json.specs.Find.{as_str}
-use Rattle.smithy_base.specs.declared.fault.Outcome.{Outcome}
-use Rattle.smithy_base.specs.declared.hook.Hook.{Hook}
-use Rattle.smithy_base.specs.declared.intercept.HookAnswer.{HookAnswer}
+use Rattle.smithy_types.specs.declared.fault.Outcome.{Outcome}
+use Rattle.smithy_types.specs.declared.hook.Hook.{Hook}
+use Rattle.smithy_context.specs.declared.intercept.HookAnswer.{HookAnswer}
 use Rattle.run_grammar.specs.Fits.{fits}
 use Rattle.run_grammar.specs.declared.answer.Answer.{Answer}
 use Rattle.run_grammar.specs.declared.answer.Answer.TheVariants as answers

@@ -14,7 +14,7 @@ use Rattle.http_header.specs.HeaderMap.{update, append, append_all, entry_pairs,
 use Rattle.http_header.specs.Token.{is_token_byte, is_value_byte, lowercase}
 use Rattle.serde_json.specs.Data.{Data, null, boolean, number, string, array, object}
 use Rattle.serde_json.specs.Find.{as_str, as_array}
-use Rattle.smithy_base.specs.HeaderList.{HeaderList}
+use Rattle.smithy_types.specs.HeaderList.{HeaderList}
 use Rattle.runcheck.specs.Forms.{starts, tagged_at, blob_at}
 use Rattle.runcheck.specs.Lists.{list_of, fresh}
 use Rattle.runcheck.specs.Plain.{number_below, pair_at, triple_at, quadruple_at}

@@ -7,11 +7,11 @@ use Rattle.std.specs.Cmp.Lexicographic.{pointwise}
 use Rattle.std.specs.List.{list_all, list_any}
 use Rattle.serde_json.specs.Data.{Data, Items, no_items, item}
 use Rattle.serde_json.specs.Find.{as_str, as_array, as_bool}
-use Rattle.smithy_base.specs.Layer.{entry, merged}
-use Rattle.smithy_base.specs.declared.config.RetryConfig.{RetryConfig}
-use Rattle.smithy_base.specs.declared.layer.LayerEntry.{LayerEntry}
-use Rattle.smithy_base.specs.declared.setting.SettingKey.{SettingKey}
-use Rattle.smithy_base.specs.declared.setting.SettingKey.TheVariants as keys
+use Rattle.smithy_context.specs.Layer.{entry, merged}
+use Rattle.smithy_types.specs.declared.config.RetryConfig.{RetryConfig}
+use Rattle.smithy_context.specs.declared.layer.LayerEntry.{LayerEntry}
+use Rattle.smithy_context.specs.declared.setting.SettingKey.{SettingKey}
+use Rattle.smithy_context.specs.declared.setting.SettingKey.TheVariants as keys
 use Rattle.runcheck.specs.Forms.{named, optional_at, true_at, texts_at, blob_at}
 use Rattle.runcheck.specs.Lists.{list_of, fresh, name_at, once, named_once}
 use Rattle.runcheck.specs.Plain.{number_at, number_below, pair_at, septuple_at}

@@ -2,8 +2,8 @@
 use Rattle.std.proofs.Common.{◌≡◌, codes, true, refl}
 use Rattle.serde_json.specs.Data.{Data}
 use Rattle.serde_json.specs.Find.{as_str}
-use Rattle.smithy_base.specs.declared.fault.Fault.{Fault}
-use Rattle.smithy_base.specs.declared.identity.Identity.{Identity}
+use Rattle.smithy_types.specs.declared.fault.Fault.{Fault}
+use Rattle.smithy_types.specs.declared.identity.Identity.{Identity}
 use Rattle.runcheck.specs.Forms.{starts, word_at, tagged_at, optional_at, blob_at}
 use Rattle.runcheck.specs.Plain.{number_at, pair_at, triple_at}
 use Rattle.runcheck.specs.Reading.{◌>>=◌}

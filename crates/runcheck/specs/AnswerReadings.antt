@@ -2,17 +2,17 @@
 use Rattle.std.specs.Prelude.{ℕ, ◌^◌, List, [], Option, Some, None, ◌||◌, codes, if◌then◌else◌}
 use Rattle.serde_json.specs.Data.{Data}
 use Rattle.serde_json.specs.Find.{as_str}
-use Rattle.smithy_base.specs.declared.intercept.HookAnswer.{HookAnswer}
-use Rattle.smithy_base.specs.declared.notes.Choice.{Choice}
-use Rattle.smithy_base.specs.declared.notes.Choice.TheVariants as choices
-use Rattle.smithy_base.specs.declared.notes.ChooseNote.{ChooseNote}
-use Rattle.smithy_base.specs.declared.notes.ChooseNote.TheVariants as choose_notes
-use Rattle.smithy_base.specs.declared.notes.DecideNote.{DecideNote}
-use Rattle.smithy_base.specs.declared.notes.Reason.{Reason}
-use Rattle.smithy_base.specs.declared.notes.Reason.TheVariants as reasons
-use Rattle.smithy_base.specs.declared.notes.RetryAction.{RetryAction}
-use Rattle.smithy_base.specs.declared.notes.RetryAction.TheVariants as actions
-use Rattle.smithy_base.specs.declared.sums.Sums.{Sums}
+use Rattle.smithy_context.specs.declared.intercept.HookAnswer.{HookAnswer}
+use Rattle.smithy_types.specs.declared.notes.Choice.{Choice}
+use Rattle.smithy_types.specs.declared.notes.Choice.TheVariants as choices
+use Rattle.smithy_types.specs.declared.notes.ChooseNote.{ChooseNote}
+use Rattle.smithy_types.specs.declared.notes.ChooseNote.TheVariants as choose_notes
+use Rattle.smithy_types.specs.declared.notes.DecideNote.{DecideNote}
+use Rattle.smithy_types.specs.declared.notes.Reason.{Reason}
+use Rattle.smithy_types.specs.declared.notes.Reason.TheVariants as reasons
+use Rattle.smithy_types.specs.declared.notes.RetryAction.{RetryAction}
+use Rattle.smithy_types.specs.declared.notes.RetryAction.TheVariants as actions
+use Rattle.smithy_types.specs.declared.sums.Sums.{Sums}
 use Rattle.run_grammar.specs.declared.answer.Answer.{Answer}
 use Rattle.run_grammar.specs.declared.answer.Answer.TheVariants as answers
 use Rattle.run_grammar.specs.declared.answer.Chosen.{Chosen}

@@ -3,24 +3,24 @@ use Rattle.std.specs.Prelude.{ℕ, ◌+◌, List, [], ◌∷◌, ◌++◌, Bool,
 use Rattle.std.specs.List.{list_all, list_any}
 use Rattle.http_header.specs.FieldValue.{FieldValue}
 use Rattle.http_header.specs.HeaderMap.{pairs, value_count}
-use Rattle.smithy_base.specs.HeaderList.{HeaderList}
-use Rattle.smithy_base.specs.Setting.{same_key}
-use Rattle.smithy_base.specs.declared.fault.Outcome.{Outcome}
-use Rattle.smithy_base.specs.declared.fault.Outcome.TheVariants as outcomes
-use Rattle.smithy_base.specs.declared.http.Body.{Body}
-use Rattle.smithy_base.specs.declared.http.Body.TheVariants as bodies
-use Rattle.smithy_base.specs.declared.http.HttpRequest.{HttpRequest}
-use Rattle.smithy_base.specs.declared.http.HttpResponse.{HttpResponse}
-use Rattle.smithy_base.specs.declared.identity.Endpoint.{Endpoint}
-use Rattle.smithy_base.specs.declared.identity.EndpointHeader.{EndpointHeader}
-use Rattle.smithy_base.specs.declared.intercept.Change.{Change}
-use Rattle.smithy_base.specs.declared.intercept.Change.TheVariants as changes
-use Rattle.smithy_base.specs.declared.intercept.HookAnswer.{HookAnswer}
-use Rattle.smithy_base.specs.declared.layer.LayerEntry.{LayerEntry}
-use Rattle.smithy_base.specs.declared.setting.Setting.{Setting}
-use Rattle.smithy_base.specs.declared.setting.Setting.TheVariants as settings
-use Rattle.smithy_base.specs.declared.setting.SettingKey.{SettingKey}
-use Rattle.smithy_base.specs.declared.setting.SettingKey.TheVariants as keys
+use Rattle.smithy_types.specs.HeaderList.{HeaderList}
+use Rattle.smithy_context.specs.Setting.{same_key}
+use Rattle.smithy_types.specs.declared.fault.Outcome.{Outcome}
+use Rattle.smithy_types.specs.declared.fault.Outcome.TheVariants as outcomes
+use Rattle.smithy_types.specs.declared.http.Body.{Body}
+use Rattle.smithy_types.specs.declared.http.Body.TheVariants as bodies
+use Rattle.smithy_types.specs.declared.http.HttpRequest.{HttpRequest}
+use Rattle.smithy_types.specs.declared.http.HttpResponse.{HttpResponse}
+use Rattle.smithy_types.specs.declared.identity.Endpoint.{Endpoint}
+use Rattle.smithy_types.specs.declared.identity.EndpointHeader.{EndpointHeader}
+use Rattle.smithy_context.specs.declared.intercept.Change.{Change}
+use Rattle.smithy_context.specs.declared.intercept.Change.TheVariants as changes
+use Rattle.smithy_context.specs.declared.intercept.HookAnswer.{HookAnswer}
+use Rattle.smithy_context.specs.declared.layer.LayerEntry.{LayerEntry}
+use Rattle.smithy_context.specs.declared.setting.Setting.{Setting}
+use Rattle.smithy_context.specs.declared.setting.Setting.TheVariants as settings
+use Rattle.smithy_context.specs.declared.setting.SettingKey.{SettingKey}
+use Rattle.smithy_context.specs.declared.setting.SettingKey.TheVariants as keys
 use Rattle.run_grammar.specs.declared.answer.Answer.{Answer}
 use Rattle.run_grammar.specs.declared.answer.Answer.TheVariants as answers
 use Rattle.run_grammar.specs.declared.answer.Chosen.{Chosen}

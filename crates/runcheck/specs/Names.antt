@@ -1,15 +1,15 @@
 -- The names that stand in scripts and prints.
 use Rattle.std.specs.Prelude.{ℕ, List, [], ◌∷◌, ◌++◌, map, codes}
-use Rattle.smithy_base.specs.declared.config.RetryMode.{RetryMode}
-use Rattle.smithy_base.specs.declared.config.RetryMode.TheVariants as modes
-use Rattle.smithy_base.specs.declared.config.ReconnectMode.{ReconnectMode}
-use Rattle.smithy_base.specs.declared.config.ReconnectMode.TheVariants as reconnects
-use Rattle.smithy_base.specs.declared.hook.Hook.{Hook}
-use Rattle.smithy_base.specs.declared.hook.Hook.TheVariants as hooks
-use Rattle.smithy_base.specs.declared.kinds.ErrorKind.{ErrorKind}
-use Rattle.smithy_base.specs.declared.kinds.ErrorKind.TheVariants as errors
-use Rattle.smithy_base.specs.declared.kinds.StopPoint.{StopPoint}
-use Rattle.smithy_base.specs.declared.kinds.StopPoint.TheVariants as stops
+use Rattle.smithy_types.specs.declared.config.RetryMode.{RetryMode}
+use Rattle.smithy_types.specs.declared.config.RetryMode.TheVariants as modes
+use Rattle.smithy_types.specs.declared.config.ReconnectMode.{ReconnectMode}
+use Rattle.smithy_types.specs.declared.config.ReconnectMode.TheVariants as reconnects
+use Rattle.smithy_types.specs.declared.hook.Hook.{Hook}
+use Rattle.smithy_types.specs.declared.hook.Hook.TheVariants as hooks
+use Rattle.smithy_types.specs.declared.kinds.ErrorKind.{ErrorKind}
+use Rattle.smithy_types.specs.declared.kinds.ErrorKind.TheVariants as errors
+use Rattle.smithy_types.specs.declared.kinds.StopPoint.{StopPoint}
+use Rattle.smithy_types.specs.declared.kinds.StopPoint.TheVariants as stops
 use Rattle.run_grammar.specs.declared.kind.Abandonable.{Abandonable}
 use Rattle.run_grammar.specs.declared.kind.Abandonable.TheVariants as abandoned
 use Rattle.run_grammar.specs.declared.kind.ConfigureStage.{ConfigureStage}

@@ -6,25 +6,25 @@ use Rattle.http_header.specs.HeaderMap.{append, append_all}
 use Rattle.http_header.specs.Token.{is_token_byte, is_value_byte, lowercase}
 use Rattle.serde_json.specs.Data.{Data, null, Items}
 use Rattle.serde_json.specs.Find.{as_str, as_array}
-use Rattle.smithy_base.specs.HeaderList.{HeaderList}
-use Rattle.smithy_base.specs.declared.fault.Fault.{Fault}
-use Rattle.smithy_base.specs.declared.fault.FaultKind.{FaultKind}
-use Rattle.smithy_base.specs.declared.fault.FaultKind.TheVariants as faults
-use Rattle.smithy_base.specs.declared.fault.Outcome.{Outcome}
-use Rattle.smithy_base.specs.declared.fault.Outcome.TheVariants as outcomes
-use Rattle.smithy_base.specs.declared.http.Body.{Body}
-use Rattle.smithy_base.specs.declared.http.Body.TheVariants as bodies
-use Rattle.smithy_base.specs.declared.http.HttpRequest.{HttpRequest}
-use Rattle.smithy_base.specs.declared.http.HttpResponse.{HttpResponse}
-use Rattle.smithy_base.specs.declared.identity.Endpoint.{Endpoint}
-use Rattle.smithy_base.specs.declared.identity.EndpointHeader.{EndpointHeader}
-use Rattle.smithy_base.specs.declared.identity.Identity.{Identity}
-use Rattle.smithy_base.specs.declared.intercept.Change.{Change}
-use Rattle.smithy_base.specs.declared.intercept.Change.TheVariants as changes
-use Rattle.smithy_base.specs.declared.kinds.ConnectorKind.{ConnectorKind}
-use Rattle.smithy_base.specs.declared.kinds.ConnectorKind.TheVariants as connectors
-use Rattle.smithy_base.specs.declared.kinds.ErrorKind.{ErrorKind}
-use Rattle.smithy_base.specs.declared.payload.Payload.{Payload}
+use Rattle.smithy_types.specs.HeaderList.{HeaderList}
+use Rattle.smithy_types.specs.declared.fault.Fault.{Fault}
+use Rattle.smithy_types.specs.declared.fault.FaultKind.{FaultKind}
+use Rattle.smithy_types.specs.declared.fault.FaultKind.TheVariants as faults
+use Rattle.smithy_types.specs.declared.fault.Outcome.{Outcome}
+use Rattle.smithy_types.specs.declared.fault.Outcome.TheVariants as outcomes
+use Rattle.smithy_types.specs.declared.http.Body.{Body}
+use Rattle.smithy_types.specs.declared.http.Body.TheVariants as bodies
+use Rattle.smithy_types.specs.declared.http.HttpRequest.{HttpRequest}
+use Rattle.smithy_types.specs.declared.http.HttpResponse.{HttpResponse}
+use Rattle.smithy_types.specs.declared.identity.Endpoint.{Endpoint}
+use Rattle.smithy_types.specs.declared.identity.EndpointHeader.{EndpointHeader}
+use Rattle.smithy_types.specs.declared.identity.Identity.{Identity}
+use Rattle.smithy_context.specs.declared.intercept.Change.{Change}
+use Rattle.smithy_context.specs.declared.intercept.Change.TheVariants as changes
+use Rattle.smithy_types.specs.declared.kinds.ConnectorKind.{ConnectorKind}
+use Rattle.smithy_types.specs.declared.kinds.ConnectorKind.TheVariants as connectors
+use Rattle.smithy_types.specs.declared.kinds.ErrorKind.{ErrorKind}
+use Rattle.smithy_types.specs.declared.payload.Payload.{Payload}
 use Rattle.runcheck.specs.Forms.{says, starts, word_at, tagged_at, named, optional_at, texts_at, blob_at}
 use Rattle.runcheck.specs.Lists.{list_of}
 use Rattle.runcheck.specs.Names.{error_kinds, error_kind_text}

@@ -3,20 +3,20 @@ use Rattle.std.specs.Prelude.{ℕ, ◌^◌, List, [], ◌∷◌, Option, Some, N
 use Rattle.std.specs.Cmp.Lexicographic.{pointwise}
 use Rattle.serde_json.specs.Data.{Data, Items}
 use Rattle.serde_json.specs.Find.{as_bool, as_str, as_array}
-use Rattle.smithy_base.specs.Layer.{entry, put_entry, merged}
-use Rattle.smithy_base.specs.declared.config.ReconnectMode.{ReconnectMode}
-use Rattle.smithy_base.specs.declared.config.RetryConfig.{RetryConfig}
-use Rattle.smithy_base.specs.declared.config.RetryMode.{RetryMode}
-use Rattle.smithy_base.specs.declared.config.RetrySpec.{RetrySpec}
-use Rattle.smithy_base.specs.declared.config.RetrySpecVersion.TheVariants as versions
-use Rattle.smithy_base.specs.declared.config.StalledStreamProtectionConfig.{StalledStreamProtectionConfig}
-use Rattle.smithy_base.specs.declared.config.TimeoutConfig.{TimeoutConfig}
-use Rattle.smithy_base.specs.declared.layer.LayerEntry.{LayerEntry}
-use Rattle.smithy_base.specs.declared.partition.RetryPartition.{RetryPartition}
-use Rattle.smithy_base.specs.declared.setting.Setting.{Setting}
-use Rattle.smithy_base.specs.declared.setting.Setting.TheVariants as settings
-use Rattle.smithy_base.specs.declared.setting.SettingKey.{SettingKey}
-use Rattle.smithy_base.specs.declared.setting.SettingKey.TheVariants as keys
+use Rattle.smithy_context.specs.Layer.{entry, put_entry, merged}
+use Rattle.smithy_types.specs.declared.config.ReconnectMode.{ReconnectMode}
+use Rattle.smithy_types.specs.declared.config.RetryConfig.{RetryConfig}
+use Rattle.smithy_types.specs.declared.config.RetryMode.{RetryMode}
+use Rattle.smithy_types.specs.declared.config.RetrySpec.{RetrySpec}
+use Rattle.smithy_types.specs.declared.config.RetrySpecVersion.TheVariants as versions
+use Rattle.smithy_types.specs.declared.config.StalledStreamProtectionConfig.{StalledStreamProtectionConfig}
+use Rattle.smithy_types.specs.declared.config.TimeoutConfig.{TimeoutConfig}
+use Rattle.smithy_context.specs.declared.layer.LayerEntry.{LayerEntry}
+use Rattle.smithy_types.specs.declared.partition.RetryPartition.{RetryPartition}
+use Rattle.smithy_context.specs.declared.setting.Setting.{Setting}
+use Rattle.smithy_context.specs.declared.setting.Setting.TheVariants as settings
+use Rattle.smithy_context.specs.declared.setting.SettingKey.{SettingKey}
+use Rattle.smithy_context.specs.declared.setting.SettingKey.TheVariants as keys
 use Rattle.runcheck.specs.Forms.{word_at, named, optional_at, true_at, texts_at, blob_at}
 use Rattle.runcheck.specs.Lists.{list_of, named_once}
 use Rattle.runcheck.specs.Names.{mode_text, retry_modes, reconnect_text, reconnect_modes}

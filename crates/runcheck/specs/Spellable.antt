@@ -4,27 +4,27 @@ use Rattle.std.specs.List.{list_all}
 use Rattle.http_header.specs.FieldValue.{FieldValue}
 use Rattle.http_header.specs.HeaderMap.{pairs}
 use Rattle.http_header.specs.Token.{is_value_byte, lowercase}
-use Rattle.smithy_base.specs.HeaderList.{HeaderList}
-use Rattle.smithy_base.specs.Setting.{key_of, same_key}
-use Rattle.smithy_base.specs.declared.fault.FaultKind.{FaultKind}
-use Rattle.smithy_base.specs.declared.fault.FaultKind.TheVariants as faults
-use Rattle.smithy_base.specs.declared.fault.Outcome.{Outcome}
-use Rattle.smithy_base.specs.declared.fault.Outcome.TheVariants as outcomes
-use Rattle.smithy_base.specs.declared.http.Body.{Body}
-use Rattle.smithy_base.specs.declared.http.Body.TheVariants as bodies
-use Rattle.smithy_base.specs.declared.http.HttpRequest.{HttpRequest}
-use Rattle.smithy_base.specs.declared.http.HttpResponse.{HttpResponse}
-use Rattle.smithy_base.specs.declared.intercept.Change.{Change}
-use Rattle.smithy_base.specs.declared.intercept.Change.TheVariants as changes
-use Rattle.smithy_base.specs.declared.intercept.HookAnswer.{HookAnswer}
-use Rattle.smithy_base.specs.declared.layer.LayerEntry.{LayerEntry}
-use Rattle.smithy_base.specs.declared.notes.DecideNote.{DecideNote}
-use Rattle.smithy_base.specs.declared.notes.Reason.{Reason}
-use Rattle.smithy_base.specs.declared.notes.Reason.TheVariants as reasons
-use Rattle.smithy_base.specs.declared.payload.Payload.{Payload}
-use Rattle.smithy_base.specs.declared.setting.Setting.{Setting}
-use Rattle.smithy_base.specs.declared.setting.Setting.TheVariants as settings
-use Rattle.smithy_base.specs.declared.setting.SettingKey.{SettingKey}
+use Rattle.smithy_types.specs.HeaderList.{HeaderList}
+use Rattle.smithy_context.specs.Setting.{key_of, same_key}
+use Rattle.smithy_types.specs.declared.fault.FaultKind.{FaultKind}
+use Rattle.smithy_types.specs.declared.fault.FaultKind.TheVariants as faults
+use Rattle.smithy_types.specs.declared.fault.Outcome.{Outcome}
+use Rattle.smithy_types.specs.declared.fault.Outcome.TheVariants as outcomes
+use Rattle.smithy_types.specs.declared.http.Body.{Body}
+use Rattle.smithy_types.specs.declared.http.Body.TheVariants as bodies
+use Rattle.smithy_types.specs.declared.http.HttpRequest.{HttpRequest}
+use Rattle.smithy_types.specs.declared.http.HttpResponse.{HttpResponse}
+use Rattle.smithy_context.specs.declared.intercept.Change.{Change}
+use Rattle.smithy_context.specs.declared.intercept.Change.TheVariants as changes
+use Rattle.smithy_context.specs.declared.intercept.HookAnswer.{HookAnswer}
+use Rattle.smithy_context.specs.declared.layer.LayerEntry.{LayerEntry}
+use Rattle.smithy_types.specs.declared.notes.DecideNote.{DecideNote}
+use Rattle.smithy_types.specs.declared.notes.Reason.{Reason}
+use Rattle.smithy_types.specs.declared.notes.Reason.TheVariants as reasons
+use Rattle.smithy_types.specs.declared.payload.Payload.{Payload}
+use Rattle.smithy_context.specs.declared.setting.Setting.{Setting}
+use Rattle.smithy_context.specs.declared.setting.Setting.TheVariants as settings
+use Rattle.smithy_context.specs.declared.setting.SettingKey.{SettingKey}
 use Rattle.run_grammar.specs.declared.answer.Answer.{Answer}
 use Rattle.run_grammar.specs.declared.answer.Answer.TheVariants as answers
 use Rattle.run_grammar.specs.declared.answer.Chosen.{Chosen}

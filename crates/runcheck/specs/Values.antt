@@ -6,45 +6,45 @@ use Rattle.http_header.specs.FieldValue.{FieldValue}
 use Rattle.http_header.specs.HeaderMap.{pairs}
 use Rattle.serde_json.specs.Data.{Data, null, boolean, number, string, array, object, unsigned, no_members, member}
 use Rattle.serde_json.specs.View.{items_of}
-use Rattle.smithy_base.specs.HeaderList.{HeaderList}
-use Rattle.smithy_base.specs.declared.config.RetryConfig.{RetryConfig}
-use Rattle.smithy_base.specs.declared.config.RetrySpec.{RetrySpec}
-use Rattle.smithy_base.specs.declared.config.StalledStreamProtectionConfig.{StalledStreamProtectionConfig}
-use Rattle.smithy_base.specs.declared.config.TimeoutConfig.{TimeoutConfig}
-use Rattle.smithy_base.specs.declared.fault.Fault.{Fault}
-use Rattle.smithy_base.specs.declared.fault.FaultKind.{FaultKind}
-use Rattle.smithy_base.specs.declared.fault.FaultKind.TheVariants as faults
-use Rattle.smithy_base.specs.declared.fault.Outcome.{Outcome}
-use Rattle.smithy_base.specs.declared.fault.Outcome.TheVariants as outcomes
-use Rattle.smithy_base.specs.declared.http.Body.{Body}
-use Rattle.smithy_base.specs.declared.http.Body.TheVariants as bodies
-use Rattle.smithy_base.specs.declared.http.HttpRequest.{HttpRequest}
-use Rattle.smithy_base.specs.declared.http.HttpResponse.{HttpResponse}
-use Rattle.smithy_base.specs.declared.identity.Endpoint.{Endpoint}
-use Rattle.smithy_base.specs.declared.identity.EndpointHeader.{EndpointHeader}
-use Rattle.smithy_base.specs.declared.identity.Identity.{Identity}
-use Rattle.smithy_base.specs.declared.intercept.Change.{Change}
-use Rattle.smithy_base.specs.declared.intercept.Change.TheVariants as changes
-use Rattle.smithy_base.specs.declared.intercept.HookAnswer.{HookAnswer}
-use Rattle.smithy_base.specs.declared.kinds.ConnectorKind.{ConnectorKind}
-use Rattle.smithy_base.specs.declared.kinds.ConnectorKind.TheVariants as connectors
-use Rattle.smithy_base.specs.declared.kinds.ErrorKind.{ErrorKind}
-use Rattle.smithy_base.specs.declared.layer.LayerEntry.{LayerEntry}
-use Rattle.smithy_base.specs.declared.notes.Choice.{Choice}
-use Rattle.smithy_base.specs.declared.notes.Choice.TheVariants as choices
-use Rattle.smithy_base.specs.declared.notes.ChooseNote.{ChooseNote}
-use Rattle.smithy_base.specs.declared.notes.ChooseNote.TheVariants as choose_notes
-use Rattle.smithy_base.specs.declared.notes.DecideNote.{DecideNote}
-use Rattle.smithy_base.specs.declared.notes.Reason.{Reason}
-use Rattle.smithy_base.specs.declared.notes.Reason.TheVariants as reasons
-use Rattle.smithy_base.specs.declared.notes.RetryAction.{RetryAction}
-use Rattle.smithy_base.specs.declared.notes.RetryAction.TheVariants as actions
-use Rattle.smithy_base.specs.declared.payload.Payload.{Payload}
-use Rattle.smithy_base.specs.declared.setting.Setting.{Setting}
-use Rattle.smithy_base.specs.declared.setting.Setting.TheVariants as settings
-use Rattle.smithy_base.specs.declared.setting.SettingKey.{SettingKey}
-use Rattle.smithy_base.specs.declared.setting.SettingKey.TheVariants as keys
-use Rattle.smithy_base.specs.declared.sums.Sums.{Sums}
+use Rattle.smithy_types.specs.HeaderList.{HeaderList}
+use Rattle.smithy_types.specs.declared.config.RetryConfig.{RetryConfig}
+use Rattle.smithy_types.specs.declared.config.RetrySpec.{RetrySpec}
+use Rattle.smithy_types.specs.declared.config.StalledStreamProtectionConfig.{StalledStreamProtectionConfig}
+use Rattle.smithy_types.specs.declared.config.TimeoutConfig.{TimeoutConfig}
+use Rattle.smithy_types.specs.declared.fault.Fault.{Fault}
+use Rattle.smithy_types.specs.declared.fault.FaultKind.{FaultKind}
+use Rattle.smithy_types.specs.declared.fault.FaultKind.TheVariants as faults
+use Rattle.smithy_types.specs.declared.fault.Outcome.{Outcome}
+use Rattle.smithy_types.specs.declared.fault.Outcome.TheVariants as outcomes
+use Rattle.smithy_types.specs.declared.http.Body.{Body}
+use Rattle.smithy_types.specs.declared.http.Body.TheVariants as bodies
+use Rattle.smithy_types.specs.declared.http.HttpRequest.{HttpRequest}
+use Rattle.smithy_types.specs.declared.http.HttpResponse.{HttpResponse}
+use Rattle.smithy_types.specs.declared.identity.Endpoint.{Endpoint}
+use Rattle.smithy_types.specs.declared.identity.EndpointHeader.{EndpointHeader}
+use Rattle.smithy_types.specs.declared.identity.Identity.{Identity}
+use Rattle.smithy_context.specs.declared.intercept.Change.{Change}
+use Rattle.smithy_context.specs.declared.intercept.Change.TheVariants as changes
+use Rattle.smithy_context.specs.declared.intercept.HookAnswer.{HookAnswer}
+use Rattle.smithy_types.specs.declared.kinds.ConnectorKind.{ConnectorKind}
+use Rattle.smithy_types.specs.declared.kinds.ConnectorKind.TheVariants as connectors
+use Rattle.smithy_types.specs.declared.kinds.ErrorKind.{ErrorKind}
+use Rattle.smithy_context.specs.declared.layer.LayerEntry.{LayerEntry}
+use Rattle.smithy_types.specs.declared.notes.Choice.{Choice}
+use Rattle.smithy_types.specs.declared.notes.Choice.TheVariants as choices
+use Rattle.smithy_types.specs.declared.notes.ChooseNote.{ChooseNote}
+use Rattle.smithy_types.specs.declared.notes.ChooseNote.TheVariants as choose_notes
+use Rattle.smithy_types.specs.declared.notes.DecideNote.{DecideNote}
+use Rattle.smithy_types.specs.declared.notes.Reason.{Reason}
+use Rattle.smithy_types.specs.declared.notes.Reason.TheVariants as reasons
+use Rattle.smithy_types.specs.declared.notes.RetryAction.{RetryAction}
+use Rattle.smithy_types.specs.declared.notes.RetryAction.TheVariants as actions
+use Rattle.smithy_types.specs.declared.payload.Payload.{Payload}
+use Rattle.smithy_context.specs.declared.setting.Setting.{Setting}
+use Rattle.smithy_context.specs.declared.setting.Setting.TheVariants as settings
+use Rattle.smithy_context.specs.declared.setting.SettingKey.{SettingKey}
+use Rattle.smithy_context.specs.declared.setting.SettingKey.TheVariants as keys
+use Rattle.smithy_types.specs.declared.sums.Sums.{Sums}
 use Rattle.run_grammar.specs.declared.answer.Answer.{Answer}
 use Rattle.run_grammar.specs.declared.answer.Answer.TheVariants as answers
 use Rattle.run_grammar.specs.declared.answer.Chosen.{Chosen}

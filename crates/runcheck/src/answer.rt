@@ -27,7 +27,8 @@ use crate::setting::{print_layer, read_layer};
 use crate::{Json, ReadError, Row, read};
 use run_grammar::{Answer, Chosen, Kind};
 use serde_json::Value;
-use smithy_base::{HookAnswer, OutOfMemory, Shared};
+use smithy_context::HookAnswer;
+use smithy_types::{OutOfMemory, Shared};
 use std::alloc::Global;
 
 /// A kind of question.

@@ -14,7 +14,8 @@ use crate::http::{
 use crate::names::{error_kind_name, error_kind_named, hook_name};
 use crate::{Json, ReadError, read};
 use serde_json::Value;
-use smithy_base::{Change, ConnectorKind, ErrorKind, Fault, FaultKind, OutOfMemory, Outcome};
+use smithy_context::Change;
+use smithy_types::{ConnectorKind, ErrorKind, Fault, FaultKind, OutOfMemory, Outcome};
 use std::alloc::Global;
 
 /// Null where there is no kind.

@@ -14,7 +14,7 @@ ghost use Rattle.runcheck.specs.Values.{num, null_or, texts, is_shown, blob_data
 use crate::{Json, ReadError, Row, read};
 use hex::FromHexError;
 use serde_json::{Map, Value};
-use smithy_base::{Blob, List, OutOfMemory, Text};
+use smithy_types::{Blob, List, OutOfMemory, Text};
 use std::alloc::Global;
 
 /// Null where there is no number. It takes no memory.

@@ -18,9 +18,9 @@ use crate::forms::{
 use crate::{Json, ReadError, Row, read};
 use http_header::{HeaderMap, HeaderName, HeaderValue, is_token_char};
 use serde_json::Value;
-use smithy_base::{
-    Body, Endpoint, EndpointHeader, Headers, HttpRequest, HttpResponse, Identity, List,
-    OutOfMemory, Payload, Shared,
+use smithy_types::{
+    Body, Endpoint, EndpointHeader, Headers, HttpRequest, HttpResponse, Identity, List, OutOfMemory,
+    Payload, Shared,
 };
 use std::alloc::Global;
 

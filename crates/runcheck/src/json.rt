@@ -4,7 +4,7 @@ ghost use Rattle.serde_json.specs.View.{view, items_view};
 ghost use Rattle.serde_json.specs.Written.{has_float, items_have_float};
 
 use serde_json::{Map, Number, Value, put};
-use smithy_base::OutOfMemory;
+use smithy_types::OutOfMemory;
 use std::alloc::Global;
 
 /// A JSON value in which no number is a float.

@@ -3,7 +3,7 @@
 ghost use Rattle.std.specs.Prelude.{◌≡◌, Some, true};
 ghost use Rattle.serde_json.specs.View.{view};
 ghost use Rattle.serde_json.specs.declared.value.Value.{Value};
-ghost use Rattle.smithy_base.specs.declared.payload.Payload.{Payload};
+ghost use Rattle.smithy_types.specs.declared.payload.Payload.{Payload};
 ghost use Rattle.run_grammar.specs.Fits.{fits};
 ghost use Rattle.run_grammar.specs.declared.answer.Answer.{Answer};
 ghost use Rattle.run_grammar.specs.declared.kind.Kind.{Kind};

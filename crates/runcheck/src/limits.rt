@@ -2,14 +2,15 @@
 ghost use Rattle.std.specs.Prelude.{◌≡◌, ◌+◌, ◌<◌, None, length, nat_le, sum_by, OnOk, IfSome};
 ghost use Rattle.std.specs.List.{list_all, list_any};
 ghost use Rattle.http_header.specs.HeaderMap.{pairs};
-ghost use Rattle.smithy_base.specs.Setting.{same_key};
+ghost use Rattle.smithy_context.specs.Setting.{same_key};
 ghost use Rattle.runcheck.specs.Limits.{fits_or_none, text_fits, texts_fit, bytes_fit, body_fits, header_size, head_fits, request_fits, response_fits, endpoint_header_fits, endpoint_fits, outcome_fits, change_fits, setting_fits, key_fits, layer_entry_fits, layer_fits, hook_answer_fits, chosen_fits, answer_fits, layer_keys, with_key, with_keys, layer_of_answer};
 
 use http_header::HeaderMap;
 use run_grammar::{Answer, Chosen};
-use smithy_base::{
-    Blob, Body, Change, Endpoint, EndpointHeader, Headers, HookAnswer, HttpRequest, HttpResponse,
-    Layer, LayerEntry, List, OutOfMemory, Outcome, Setting, SettingKey, Shared, Text,
+use smithy_context::{Change, HookAnswer, Layer, LayerEntry, Setting, SettingKey};
+use smithy_types::{
+    Blob, Body, Endpoint, EndpointHeader, Headers, HttpRequest, HttpResponse, List, OutOfMemory,
+    Outcome, Shared, Text,
 };
 use std::alloc::Global;
 

@@ -5,7 +5,7 @@ ghost use Rattle.runcheck.specs.Forms.{named};
 ghost use Rattle.runcheck.specs.Names.{hook_text, role_text, stage_text, abandoned_text, kind_front, kind_name, kind_text, error_kind_text, stop_text, mode_text, reconnect_text, error_kinds, stop_points, retry_modes, reconnect_modes, all_kinds};
 
 use run_grammar::{Abandonable, ConfigureStage, Kind, Role};
-use smithy_base::{ErrorKind, Hook, ReconnectMode, RetryMode, StopPoint};
+use smithy_types::{ErrorKind, Hook, ReconnectMode, RetryMode, StopPoint};
 
 /// A hook's name. The two of `read_before_execution` say whose interceptors they are.
 pub fn hook_name(hook: Hook) -> &'static str

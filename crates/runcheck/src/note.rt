@@ -14,7 +14,7 @@ use crate::forms::{
 use crate::names::error_kind_name;
 use crate::{Json, ReadError, Row, read};
 use serde_json::Value;
-use smithy_base::{Choice, ChooseNote, DecideNote, OutOfMemory, Reason, RetryAction, Sums};
+use smithy_types::{Choice, ChooseNote, DecideNote, OutOfMemory, Reason, RetryAction, Sums};
 use std::alloc::Global;
 
 /// Null where there is no note.

@@ -7,7 +7,7 @@ ghost use Rattle.runcheck.specs.Reading.{Reads, Gives};
 ghost use Rattle.runcheck.specs.Tuples.{two_of, three_of, four_of, five_of, six_of, seven_of};
 
 use serde_json::Value;
-use smithy_base::{OutOfMemory, Text};
+use smithy_types::{OutOfMemory, Text};
 use std::alloc::{AllocError, AllocFailed, Global};
 
 /// Why a value was not read.

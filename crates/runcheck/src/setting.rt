@@ -17,10 +17,10 @@ use crate::lists::named_once;
 use crate::names::{mode_name, mode_named, reconnect_name, reconnect_named};
 use crate::{Json, ReadError, Row, read};
 use serde_json::Value;
-use smithy_base::{
-    Layer, LayerEntry, OutOfMemory, ReconnectMode, RetryConfig, RetryMode, RetryPartition,
-    RetrySpec, RetrySpecVersion, Setting, SettingKey, Shared, StalledStreamProtectionConfig, Text,
-    TimeoutConfig,
+use smithy_context::{Layer, LayerEntry, Setting, SettingKey};
+use smithy_types::{
+    OutOfMemory, ReconnectMode, RetryConfig, RetryMode, RetryPartition, RetrySpec, RetrySpecVersion,
+    Shared, StalledStreamProtectionConfig, Text, TimeoutConfig,
 };
 use std::alloc::Global;
 

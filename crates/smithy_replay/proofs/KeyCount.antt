@@ -2,8 +2,8 @@
 use Rattle.std.proofs.Common.{◌≡◌, ℕ, suc, ◌+◌, ◌<◌, ◌≤◌, List, [], ◌∷◌, ◌++◌, length, drop, get_or, Bool, true, false, nat_le, arith, ap, ◌∙◌, sym, drop-cons, add-one, if◌then◌else◌}
 use Rattle.std.specs.List.{list_any}
 use Rattle.std.proofs.lemmas.List.{drop_all}
-use Rattle.smithy_base.specs.Setting.{same_key}
-use Rattle.smithy_base.specs.declared.setting.SettingKey.{SettingKey}
+use Rattle.smithy_context.specs.Setting.{same_key}
+use Rattle.smithy_context.specs.declared.setting.SettingKey.{SettingKey}
 use Rattle.orchestrate.specs.declared.script.ScriptAnswer.{ScriptAnswer}
 use Rattle.runcheck.specs.Limits.{with_key, with_keys, layer_keys, layer_of_answer}
 use Rattle.smithy_replay.specs.Script.{keys_behind, keys_fit}

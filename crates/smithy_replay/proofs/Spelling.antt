@@ -1,9 +1,9 @@
 -- The log of a script's run, and the answers that it took.
 use Rattle.std.proofs.Common.{List, [], ◌++◌, Some, Result, Ok, Err, ◌≡◌, refl, sym, ap, ◌∙◌, subst}
-use Rattle.smithy_base.specs.declared.context.InterceptorContext.{InterceptorContext}
+use Rattle.smithy_context.specs.declared.context.InterceptorContext.{InterceptorContext}
 use Rattle.std.specs.Prelude.{IfOk}
-use Rattle.smithy_base.specs.declared.memory.OutOfMemory.{OutOfMemory}
-use Rattle.smithy_base.specs.declared.payload.Payload.{Payload}
+use Rattle.smithy_types.specs.declared.memory.OutOfMemory.{OutOfMemory}
+use Rattle.smithy_types.specs.declared.payload.Payload.{Payload}
 use Rattle.run_grammar.specs.declared.answer.Entry.{Entry}
 use Rattle.orchestrate.specs.declared.execution.InvokeError.{InvokeError}
 use Rattle.orchestrate.specs.declared.execution.InvokeError.TheVariants as invoke_errors

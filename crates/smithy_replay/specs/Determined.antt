@@ -1,6 +1,6 @@
 -- What a replay is determined by.
 use Rattle.std.specs.Prelude.{ℕ, ◌≡◌, Bool, true, false, List, [], Option, Some, is_some}
-use Rattle.smithy_base.specs.declared.http.HttpRequest.{HttpRequest}
+use Rattle.smithy_types.specs.declared.http.HttpRequest.{HttpRequest}
 use Rattle.run_grammar.specs.declared.answer.Entry.{Entry}
 use Rattle.smithy_replay.specs.Endings.{Ends}
 use Rattle.smithy_replay.specs.Replay.{ReplayOf}

@@ -5,9 +5,9 @@ use Rattle.std.specs.List.{list_all}
 use Rattle.serde_json.specs.Data.{Data, Members, no_members, member}
 use Rattle.serde_json.specs.Find.{get, as_array, as_object, as_str}
 use Rattle.serde_json.specs.Read.{read}
-use Rattle.smithy_base.specs.declared.kinds.StopPoint.{StopPoint}
-use Rattle.smithy_base.specs.declared.kinds.StopPoint.TheVariants as stops
-use Rattle.smithy_base.specs.declared.setting.SettingKey.{SettingKey}
+use Rattle.smithy_types.specs.declared.kinds.StopPoint.{StopPoint}
+use Rattle.smithy_types.specs.declared.kinds.StopPoint.TheVariants as stops
+use Rattle.smithy_context.specs.declared.setting.SettingKey.{SettingKey}
 use Rattle.orchestrate.specs.declared.script.ScriptAnswer.{ScriptAnswer}
 use Rattle.runcheck.specs.AnswerReadings.{kind_at, answer_at}
 use Rattle.runcheck.specs.Forms.{named}

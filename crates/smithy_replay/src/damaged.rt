@@ -5,7 +5,7 @@ use crate::run::run;
 use crate::status::Status;
 use runcheck::answer::{print_answer, read_answer, read_kind};
 use serde_json::Value;
-use smithy_base::{List, Text};
+use smithy_types::{List, Text};
 use std::alloc::Global;
 use std::sync::Wait;
 use std::test::Fail;

@@ -5,7 +5,7 @@ use crate::memory::{SureSink, SureSource};
 use crate::run::run;
 use crate::source::{Got, Source};
 use crate::status::Status;
-use smithy_base::{List, Text};
+use smithy_types::{List, Text};
 use std::alloc::Global;
 use std::sync::Wait;
 use std::test::Fail;

@@ -11,9 +11,8 @@ use orchestrate::InvokeError;
 use runcheck::Json;
 use runcheck::fault::print_fault;
 use runcheck::http::{print_payload, print_request, print_response};
-use smithy_base::{
-    HookView, HttpRequest, InterceptorContext, OutOfMemory, Outcome, Payload, SdkError,
-};
+use smithy_context::{HookView, InterceptorContext};
+use smithy_types::{HttpRequest, OutOfMemory, Outcome, Payload, SdkError};
 use std::alloc::Global;
 
 /// How a run ended.

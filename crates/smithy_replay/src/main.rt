@@ -23,7 +23,7 @@ mod tests;
 pub mod words;
 
 use run::run;
-use smithy_base::{List, Text};
+use smithy_types::{List, Text};
 use standard::{StdSink, StdSource};
 use status::Status;
 use std::process::ExitCode;

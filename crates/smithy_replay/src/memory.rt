@@ -3,7 +3,7 @@ ghost use Rattle.std.specs.Prelude.{◌≡◌, ◌+◌, ◌≤◌, ◌<◌, [], 
 
 use crate::sink::{Sink, Wrote};
 use crate::source::{Got, Source};
-use smithy_base::List;
+use smithy_types::List;
 use std::alloc::Global;
 
 /// Bytes in memory that are read without a fault.

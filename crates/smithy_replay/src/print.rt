@@ -10,7 +10,7 @@ use runcheck::answer::{print_answer, print_kind};
 use runcheck::http::{print_payload, print_request};
 use runcheck::names::stop_name;
 use runcheck::{Json, Row};
-use smithy_base::{HttpRequest, OutOfMemory};
+use smithy_types::{HttpRequest, OutOfMemory};
 use std::alloc::Global;
 
 /// The whole print: what it was begun with, the entries numbered from 1, and the ending.

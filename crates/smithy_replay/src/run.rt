@@ -20,7 +20,7 @@ use crate::streams::{InputError, SinkFault, read_all, write_all};
 use crate::words::{Command, command_in};
 use orchestrate::{Operation, ScriptWorld, invoke_with_stop_point};
 use runcheck::ReadError;
-use smithy_base::{OutOfMemory, Payload, StopPoint, Text};
+use smithy_types::{OutOfMemory, Payload, StopPoint, Text};
 use std::alloc::Global;
 use std::sync::Wait;
 use std::thread::Threads;

@@ -14,7 +14,8 @@ use runcheck::limits::{add_keys, answer_fits};
 use runcheck::names::stop_named;
 use runcheck::read::{items, member, number, pair, str};
 use serde_json::{Error, Map, Value};
-use smithy_base::{List, OutOfMemory, Payload, SettingKey, StopPoint};
+use smithy_context::SettingKey;
+use smithy_types::{List, OutOfMemory, Payload, StopPoint};
 use std::alloc::Global;
 
 /// The most fuel of a script.

@@ -4,7 +4,7 @@ use crate::memory::{MemorySink, MemorySource, SureSink, SureSource};
 use crate::run::{HELP, VERSION, run};
 use crate::standard::{StdSink, StdSource};
 use crate::status::Status;
-use smithy_base::{List, Text};
+use smithy_types::{List, Text};
 use std::alloc::Global;
 use std::collections::VecDeque;
 use std::io::Write;

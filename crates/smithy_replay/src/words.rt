@@ -2,7 +2,7 @@
 ghost use Rattle.std.specs.Prelude.{◌≡◌, Some};
 ghost use Rattle.smithy_replay.specs.Words.{number_word, digits_number, with_digit, one_word, command_of};
 
-use smithy_base::Text;
+use smithy_types::Text;
 
 /// What the program is asked to do.
 #[derive(Clone, Copy, Debug, PartialEq, Eq)]

@@ -1,7 +1,7 @@
 ghost use Rattle.std.specs.Prelude.{◌≡◌, None, Some, unwrap_or};
 
 use crate::Throughput;
-use smithy_base::StalledStreamProtectionConfig;
+use smithy_types::StalledStreamProtectionConfig;
 
 /// How long a stream may stall where nothing else was said: 20 s, in ns.
 pub const DEFAULT_GRACE_PERIOD: u64 = 20_000_000_000;

@@ -3,7 +3,7 @@ use Rattle.std.proofs.Common.{◌≡◌, ℕ, ◌+◌, ◌<◌, ◌≤◌, ◌^�
 use Rattle.std.specs.Prelude.{count_by}
 use Rattle.std.specs.Borrow.{MutBor}
 use Rattle.std.proofs.lemmas.List.Sums.{sum_by-cons}
-use Rattle.smithy_base.specs.declared.timers.TimersCall.TheVariants.{Now, Start, Ready, GiveUp}
+use Rattle.smithy_types.specs.declared.timers.TimersCall.TheVariants.{Now, Start, Ready, GiveUp}
 use Rattle.waiters.specs.declared.timers.WaiterCall.{WaiterCall}
 use Rattle.waiters.specs.declared.timers.WaiterCall.TheVariants.{Timers, Word, Park, Poll}
 use Rattle.waiters.specs.Calls.{Answer, Call, Handed, asks, called, is_ask, is_unready, is_unready_call, poll_answer, polled}

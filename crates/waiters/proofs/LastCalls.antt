@@ -2,8 +2,8 @@
 use Rattle.std.proofs.Common.{◌≡◌, ◌≢◌, ℕ, zero, suc, List, [], ◌∷◌, ◌++◌, Bool, true, false, Ok, Err, Some, Result, refl, ap, subst, ◌∙◌, map, cond}
 use Rattle.std.specs.Prelude.{◌==◌}
 use Rattle.std.specs.Borrow.{Bor}
-use Rattle.smithy_base.specs.declared.acceptor.AcceptorState.{AcceptorState}
-use Rattle.smithy_base.specs.declared.timers.TimersCall.TheVariants.{Now, Start, Ready, GiveUp}
+use Rattle.smithy_types.specs.declared.acceptor.AcceptorState.{AcceptorState}
+use Rattle.smithy_types.specs.declared.timers.TimersCall.TheVariants.{Now, Start, Ready, GiveUp}
 use Rattle.waiters.specs.declared.backoff.Backoff.{Backoff}
 use Rattle.waiters.specs.declared.outcome.WaiterError.TheVariants as end
 use Rattle.waiters.specs.declared.timers.WaiterCall.TheVariants as own

@@ -3,8 +3,8 @@ use Rattle.std.proofs.Common.{◌≡◌, ℕ, ◌≢◌, ◌++◌, ◌∷◌, []
 use Rattle.std.specs.Prelude.{◌==◌}
 use Rattle.std.proofs.lemmas.Bool.Decides.{nat_tests}
 use Rattle.std.proofs.lemmas.List.Sums.{sum_by-cons}
-use Rattle.smithy_base.specs.declared.memory.OutOfMemory.{OutOfMemory}
-use Rattle.smithy_base.specs.declared.timers.TimersCall.TheVariants.{Ready, Start}
+use Rattle.smithy_types.specs.declared.memory.OutOfMemory.{OutOfMemory}
+use Rattle.smithy_types.specs.declared.timers.TimersCall.TheVariants.{Ready, Start}
 use Rattle.waiters.specs.declared.timers.WaiterCall.{WaiterCall}
 use Rattle.waiters.specs.declared.timers.WaiterCall.TheVariants.{Timers}
 use Rattle.waiters.specs.Calls.{is_ready_call}

@@ -1,10 +1,10 @@
 -- What the acceptor says of what it is shown.
 use Rattle.std.proofs.Common.{◌≡◌, Result, Ok, Err, Some, subst, sym, refl}
 use Rattle.std.specs.Borrow.{Bor}
-use Rattle.smithy_base.specs.declared.acceptor.AcceptorState.{AcceptorState}
-use Rattle.smithy_base.specs.declared.fault.SdkError.{SdkError}
-use Rattle.smithy_base.specs.declared.fault.SdkError.TheVariants.{ConstructionFailure, TimeoutError, DispatchFailure, ResponseError, ServiceError}
-use Rattle.smithy_base.specs.declared.http.HttpResponse.{HttpResponse}
+use Rattle.smithy_types.specs.declared.acceptor.AcceptorState.{AcceptorState}
+use Rattle.smithy_types.specs.declared.fault.SdkError.{SdkError}
+use Rattle.smithy_types.specs.declared.fault.SdkError.TheVariants.{ConstructionFailure, TimeoutError, DispatchFailure, ResponseError, ServiceError}
+use Rattle.smithy_types.specs.declared.http.HttpResponse.{HttpResponse}
 use Rattle.waiters.specs.Steps.{Sees}
 use Rattle.waiters.specs.Walk.{Accepts}
 

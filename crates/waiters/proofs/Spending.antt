@@ -3,9 +3,9 @@ use Rattle.std.proofs.Common.{◌≡◌, ℕ, ◌≢◌, ◌≤◌, ◌<◌, ◌
 use Rattle.std.specs.Prelude.{count_by}
 use Rattle.std.specs.Borrow.{MutBor}
 use Rattle.std.proofs.lemmas.List.Sums.{sum_by-append, sum_by-cons}
-use Rattle.smithy_base.specs.declared.fault.SdkError.{SdkError}
-use Rattle.smithy_base.specs.declared.memory.OutOfMemory.{OutOfMemory}
-use Rattle.smithy_base.specs.declared.timers.TimersCall.TheVariants.{Ready}
+use Rattle.smithy_types.specs.declared.fault.SdkError.{SdkError}
+use Rattle.smithy_types.specs.declared.memory.OutOfMemory.{OutOfMemory}
+use Rattle.smithy_types.specs.declared.timers.TimersCall.TheVariants.{Ready}
 use Rattle.waiters.specs.declared.timers.WaiterCall.{WaiterCall}
 use Rattle.waiters.specs.declared.timers.WaiterCall.TheVariants.{Timers, Park}
 use Rattle.waiters.specs.Calls.{Answer, Call, Handed, KeepsTimers, Takes, asks, called, is_ask, is_ready_call, polled}

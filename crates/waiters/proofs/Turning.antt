@@ -4,9 +4,9 @@ use Rattle.std.specs.Prelude.{◌==◌, map}
 use Rattle.std.proofs.Math.Bool.{or-false}
 use Rattle.std.proofs.lemmas.List.Sums.{sum_by-cons}
 use Rattle.std.specs.Borrow.{Bor, MutBor}
-use Rattle.smithy_base.specs.declared.acceptor.AcceptorState.{AcceptorState}
-use Rattle.smithy_base.specs.declared.fault.SdkError.{SdkError}
-use Rattle.smithy_base.specs.declared.timers.TimersCall.TheVariants.{Now, Start}
+use Rattle.smithy_types.specs.declared.acceptor.AcceptorState.{AcceptorState}
+use Rattle.smithy_types.specs.declared.fault.SdkError.{SdkError}
+use Rattle.smithy_types.specs.declared.timers.TimersCall.TheVariants.{Now, Start}
 use Rattle.waiters.specs.declared.asking.Stop.{Stop}
 use Rattle.waiters.specs.declared.asking.Stop.TheVariants as stop
 use Rattle.waiters.specs.declared.backoff.Backoff.{Backoff}

@@ -1,9 +1,9 @@
 -- The calls that a waiter makes of its timers and its operation.
 use Rattle.std.specs.Prelude.{◌≡◌, ℕ, ◌≤◌, ◌<◌, ◌^◌, Bool, true, false, not, List, [], ◌∷◌, Option, None, Some, Result, Ok, Err, count_by}
 use Rattle.std.specs.Borrow.{MutBor}
-use Rattle.smithy_base.specs.declared.fault.SdkError.{SdkError}
-use Rattle.smithy_base.specs.declared.memory.OutOfMemory.{OutOfMemory}
-use Rattle.smithy_base.specs.declared.timers.TimersCall.TheVariants.{Now, Start, Ready, GiveUp}
+use Rattle.smithy_types.specs.declared.fault.SdkError.{SdkError}
+use Rattle.smithy_types.specs.declared.memory.OutOfMemory.{OutOfMemory}
+use Rattle.smithy_types.specs.declared.timers.TimersCall.TheVariants.{Now, Start, Ready, GiveUp}
 use Rattle.waiters.specs.declared.timers.PollAnswer.{PollAnswer}
 use Rattle.waiters.specs.declared.timers.PollAnswer.TheVariants as poll
 use Rattle.waiters.specs.declared.timers.WaiterCall.{WaiterCall}

@@ -1,6 +1,6 @@
 -- The count of `ready` calls that answered no.
 use Rattle.std.specs.Prelude.{◌≡◌, ℕ, ◌+◌, ◌^◌, ◌≤◌, ◌<◌, true, false}
-use Rattle.smithy_base.specs.declared.timers.TimersCall.TheVariants.{Now, Start, Ready, GiveUp}
+use Rattle.smithy_types.specs.declared.timers.TimersCall.TheVariants.{Now, Start, Ready, GiveUp}
 use Rattle.waiters.specs.declared.timers.WaiterCall.{WaiterCall}
 use Rattle.waiters.specs.declared.timers.WaiterCall.TheVariants.{Timers, Word, Park, Poll}
 

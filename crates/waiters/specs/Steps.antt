@@ -1,10 +1,10 @@
 -- The parts of a turn, as the waiter makes them.
 use Rattle.std.specs.Prelude.{◌≡◌, ℕ, ◌+◌, Bool, true, List, [], ◌∷◌, ◌++◌, Option, None, Some, Result, Ok, Err, count_by, if◌then◌else◌}
 use Rattle.std.specs.Borrow.{Bor, MutBor}
-use Rattle.smithy_base.specs.declared.acceptor.AcceptorState.{AcceptorState}
-use Rattle.smithy_base.specs.declared.fault.SdkError.{SdkError}
-use Rattle.smithy_base.specs.declared.fault.SdkError.TheVariants.{ConstructionFailure, TimeoutError, DispatchFailure, ResponseError, ServiceError}
-use Rattle.smithy_base.specs.declared.timers.TimersCall.TheVariants.{Start, Ready}
+use Rattle.smithy_types.specs.declared.acceptor.AcceptorState.{AcceptorState}
+use Rattle.smithy_types.specs.declared.fault.SdkError.{SdkError}
+use Rattle.smithy_types.specs.declared.fault.SdkError.TheVariants.{ConstructionFailure, TimeoutError, DispatchFailure, ResponseError, ServiceError}
+use Rattle.smithy_types.specs.declared.timers.TimersCall.TheVariants.{Start, Ready}
 use Rattle.waiters.specs.declared.backoff.Backoff.{Backoff}
 use Rattle.waiters.specs.declared.progress.Progress.{Progress}
 use Rattle.waiters.specs.declared.asking.Stop.{Stop}

@@ -1,9 +1,9 @@
 -- The calls of a walk, in their order.
 use Rattle.std.specs.Prelude.{◌≡◌, ◌≢◌, ℕ, ◌+◌, ◌≤◌, ◌==◌, true, false, List, [], ◌∷◌, ◌++◌, None, Some, Result, Ok, Err, if◌then◌else◌, zero, suc, count_by, map}
 use Rattle.std.specs.Borrow.{Bor, MutBor}
-use Rattle.smithy_base.specs.declared.acceptor.AcceptorState.{AcceptorState}
-use Rattle.smithy_base.specs.declared.memory.OutOfMemory.{OutOfMemory}
-use Rattle.smithy_base.specs.declared.timers.TimersCall.TheVariants.{Now, Start, Ready}
+use Rattle.smithy_types.specs.declared.acceptor.AcceptorState.{AcceptorState}
+use Rattle.smithy_types.specs.declared.memory.OutOfMemory.{OutOfMemory}
+use Rattle.smithy_types.specs.declared.timers.TimersCall.TheVariants.{Now, Start, Ready}
 use Rattle.waiters.specs.declared.backoff.Backoff.{Backoff}
 use Rattle.waiters.specs.declared.outcome.WaiterError.TheVariants as end
 use Rattle.waiters.specs.declared.timers.WaiterCall.{WaiterCall}

@@ -4,7 +4,7 @@ ghost use Rattle.waiters.specs.Calls.{KeepsTimers};
 ghost use Rattle.waiters.specs.Steps.{Spends, TimersSpend, ask_calls, pause_calls, error_of, sleep_calls};
 
 use crate::{WaiterError, WaiterTimers};
-use smithy_base::{OutOfMemory, SdkError};
+use smithy_types::{OutOfMemory, SdkError};
 use std::alloc::Global;
 
 /// Why a walk stops before its end.

@@ -5,7 +5,7 @@ ghost use Rattle.waiters.specs.Walk.{End, Turn};
 ghost use Rattle.waiters.specs.WalkCalls.{Rest, walk_calls};
 
 use crate::{Backoff, WaiterError};
-use smithy_base::AcceptorState;
+use smithy_types::AcceptorState;
 
 /// The calls of a walk that a poll ended are never those of one that is unfinished. So a waiter is
 /// Unfinished exactly where its fuel is spent and its walk hasn't ended.

@@ -19,7 +19,7 @@ pub use error::{BuildError, Part};
 pub use laws::an_ended_walk_is_finished;
 pub use orchestrator::WaiterOrchestrator;
 pub use outcome::{FinalPoll, WaiterError};
-pub use smithy_base::AcceptorState;
+pub use smithy_types::AcceptorState;
 pub use timers::{PollAnswer, WaiterCall, WaiterTimers};
 
 #[cfg(test)]

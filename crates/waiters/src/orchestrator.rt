@@ -9,7 +9,7 @@ use crate::asking::{answered, paused};
 use crate::progress::Progress;
 use crate::verdict::{end_of, state_of};
 use crate::{Backoff, FinalPoll, WaiterError, WaiterTimers};
-use smithy_base::{AcceptorState, OutOfMemory, SdkError};
+use smithy_types::{AcceptorState, OutOfMemory, SdkError};
 use std::alloc::Global;
 
 /// Polls an operation until an acceptor says that the resource is in the desired state.

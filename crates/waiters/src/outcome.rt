@@ -1,6 +1,6 @@
 //! What a waiter ends with.
 
-use smithy_base::SdkError;
+use smithy_types::SdkError;
 
 /// The poll that ended a waiter: an output, or an error of the operation's model.
 #[derive(Debug, Drop)]

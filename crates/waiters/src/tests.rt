@@ -7,7 +7,7 @@ use crate::{
     BuildError, FinalPoll, Part, WaiterError, WaiterOrchestrator, WaiterOrchestratorBuilder,
     WaiterTimers, delay,
 };
-use smithy_base::{
+use smithy_types::{
     AcceptorState, Body, Fault, FaultKind, Headers, HttpResponse, OutOfMemory, SdkError, Text,
     Timers,
 };

@@ -1,7 +1,7 @@
 //! What a waiter is handed to wait with.
 ghost use Rattle.std.specs.Prelude.{◌≡◌};
 
-use smithy_base::{Timers, TimersCall};
+use smithy_types::{Timers, TimersCall};
 
 /// What a poll of the operation came to.
 #[derive(Clone, Copy)]
@@ -31,7 +31,7 @@ pub enum WaiterCall {
 /// Timers that also draw random words and wait.
 pub trait WaiterTimers: Timers {
     ghost use Rattle.std.specs.Prelude.{ℕ};
-    ghost use Rattle.smithy_base.specs.declared.timers.TimersCall.{TimersCall};
+    ghost use Rattle.smithy_types.specs.declared.timers.TimersCall.{TimersCall};
     ghost use Rattle.waiters.specs.declared.timers.WaiterCall.{WaiterCall};
     ghost use Rattle.waiters.specs.Count.{Counts};
 

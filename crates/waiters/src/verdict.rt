@@ -4,7 +4,7 @@ ghost use Rattle.waiters.specs.Steps.{Sees};
 ghost use Rattle.waiters.specs.Walk.{Accepts, EndsBy, goes_on, verdict};
 
 use crate::{FinalPoll, WaiterError};
-use smithy_base::{AcceptorState, SdkError};
+use smithy_types::{AcceptorState, SdkError};
 
 /// What an acceptor is asked about, if a poll answered it.
 fn modeled<O, E>(polled: &Result<O, SdkError<E>>) -> Option<Result<&O, &E>>

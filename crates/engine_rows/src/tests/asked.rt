@@ -5,7 +5,7 @@ use run_grammar::Kind::{
     Stream, Transmit, Wait,
 };
 use run_grammar::{ConfigureStage, Entry, Kind, Role};
-use smithy_base::Hook;
+use smithy_types::Hook;
 use std::alloc::{AllocError, Global};
 
 /// Up to the last settings.

@@ -5,7 +5,7 @@ use crate::script::{ANSWERED, CONFIGURED, DECIDED, DELAYED, GRANTED, OPENED, UNA
 use crate::spelled::Spelled;
 use orchestrate::Operation;
 use run_grammar::{Abandonable, ConfigureStage, Role};
-use smithy_base::{Blob, Choice, Hook, OutOfMemory, Text, Wire};
+use smithy_types::{Blob, Choice, Hook, OutOfMemory, Text, Wire};
 
 /// One attempt, with all hooks.
 pub const TEAPOT: Row = Row {

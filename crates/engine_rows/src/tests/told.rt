@@ -2,9 +2,8 @@
 
 use orchestrate::InvokeError;
 use run_grammar::{Entry, Question};
-use smithy_base::{
-    Blob, Body, Fault, FaultKind, HttpRequest, HttpResponse, InterceptorContext, Payload, SdkError,
-};
+use smithy_context::InterceptorContext;
+use smithy_types::{Blob, Body, Fault, FaultKind, HttpRequest, HttpResponse, Payload, SdkError};
 use std::alloc::Global;
 use std::test::Fail;
 

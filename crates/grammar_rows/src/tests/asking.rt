@@ -1,7 +1,8 @@
 //! Which parts a question hands on.
 use super::{bucket_of, endpoint, in_attempt, settings, tell, tell_outcome};
 use run_grammar::{Abandonable, ConfigureStage, Kind, Question, Role, Standing};
-use smithy_base::{Hook, HttpRequest, HttpResponse, Outcome, Payload, Settings};
+use smithy_context::Settings;
+use smithy_types::{Hook, HttpRequest, HttpResponse, Outcome, Payload};
 use std::alloc::Global;
 use std::process::Abort;
 use std::test::Fail;

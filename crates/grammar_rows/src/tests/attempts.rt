@@ -1,7 +1,7 @@
 //! What stands after a decision, and after the start of a further attempt.
 use super::{Table, endpoint, in_attempt, in_memory, request, settings};
 use run_grammar::{Answer, Kind, Role, Standing};
-use smithy_base::{Choice, Text};
+use smithy_types::{Choice, Text};
 use std::alloc::Global;
 use std::process::Abort;
 use std::test::Fail;

@@ -1,9 +1,10 @@
 //! What stands after each answer.
 use super::{Table, endpoint, failure, in_memory, input, layer, request, response};
 use run_grammar::{Abandonable, Answer, Chosen, ConfigureStage, Kind, Role};
-use smithy_base::{
-    Blob, Body, ConnectorKind, Endpoint, FaultKind, Identity, Layer, OutOfMemory, Outcome, Setting,
-    Shared, Text, TimeoutConfig,
+use smithy_context::{Layer, Setting};
+use smithy_types::{
+    Blob, Body, ConnectorKind, Endpoint, FaultKind, Identity, OutOfMemory, Outcome, Shared, Text,
+    TimeoutConfig,
 };
 use std::alloc::Global;
 use std::process::Abort;

@@ -1,8 +1,7 @@
 //! Which error a failure comes to, by its kind, the phase and the held response.
 use super::{input, response};
-use smithy_base::{
-    ConnectorKind, Fault, FaultKind, Hook, InterceptorContext, Payload, Phase, SdkError, Text,
-};
+use smithy_context::InterceptorContext;
+use smithy_types::{ConnectorKind, Fault, FaultKind, Hook, Payload, Phase, SdkError, Text};
 use std::process::Abort;
 use std::test::Fail;
 

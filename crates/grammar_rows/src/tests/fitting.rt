@@ -1,10 +1,8 @@
 //! Which answers fit which kind, and which of them fail.
 use super::{endpoint, failure, input, request, response};
 use run_grammar::{Abandonable, Answer, Chosen, ConfigureStage, Kind, Role};
-use smithy_base::{
-    Blob, Body, Change, Choice, ConnectorKind, FaultKind, Hook, HookAnswer, Identity, Layer,
-    Outcome, Text,
-};
+use smithy_context::{Change, HookAnswer, Layer};
+use smithy_types::{Blob, Body, Choice, ConnectorKind, FaultKind, Hook, Identity, Outcome, Text};
 use std::alloc::Global;
 use std::process::Abort;
 use std::test::Fail;

@@ -1,9 +1,8 @@
 //! What a hook may write.
 use super::{Table, input, layer, request, response};
 use run_grammar::{Answer, Kind};
-use smithy_base::{
-    Blob, Body, Change, Hook, HookAnswer, Layer, OutOfMemory, Outcome, Payload, Setting, Text,
-};
+use smithy_context::{Change, HookAnswer, Layer, Setting};
+use smithy_types::{Blob, Body, Hook, OutOfMemory, Outcome, Payload, Text};
 use std::alloc::Global;
 use std::process::Abort;
 use std::test::Fail;

@@ -2,7 +2,8 @@ use super::*;
 use crate::operation::Operation;
 use crate::script::{ScriptAnswer, ScriptWorld};
 use run_grammar::{Answer, ConfigureStage, Kind};
-use smithy_base::{Layer, List, Text};
+use smithy_context::Layer;
+use smithy_types::{List, Text};
 use std::test::Fail;
 
 // A world whose first answer is a layer, and which has no part else.
@@ -21,7 +22,7 @@ fn bare(alloc: Global) -> Result<ScriptWorld, OutOfMemory> {
 fn input() -> Payload {
     Payload {
         kind: 1,
-        bytes: smithy_base::Blob::new(),
+        bytes: smithy_types::Blob::new(),
     }
 }
 

@@ -2,7 +2,7 @@ ghost use Rattle.std.specs.Prelude.{◌≡◌, None};
 
 use super::*;
 use crate::OpenLimiter;
-use smithy_base::Text;
+use smithy_types::Text;
 use std::hash::{DefaultHasher, Hash, Hasher};
 use std::test::Fail;
 

@@ -1,7 +1,7 @@
 use Rattle.std.proofs.Common.{◌≡◌, ◌≢◌, List, [], ◌∷◌, refl, ◌∙◌, ap}
 use Rattle.serde_json.specs.Data.{Data, array}
 use Rattle.serde_json.specs.View.{items_of}
-use Rattle.smithy_base.specs.HeaderList.{HeaderList}
+use Rattle.smithy_types.specs.HeaderList.{HeaderList}
 use Rattle.runcheck.specs.Values.{headers_data}
 use Rattle.runcheck.proofs.http.print_headers.Goals as goal
 

@@ -1,8 +1,0 @@
--- Settings by their layers.
-use Rattle.std.specs.Prelude.{Option, None, Some, []}
-use Rattle.smithy_base.specs.declared.settings.Layers.{Layers}
-use Rattle.smithy_base.specs.StandingLayers.{StandingLayers}
-
-abbrev pub standing_of : Option Layers → StandingLayers
-standing_of None = record { pushed = []; state = [] }
-standing_of (Some l) = record { pushed = l.pushed; state = l.state }

@@ -1,0 +1,47 @@
+-- From a failure to the error that a caller sees, as the Rust crate's orchestrator maps it.
+use Rattle.std.specs.Prelude.{Bool, true, false, Option, Some, None}
+use Rattle.smithy_types.specs.declared.fault.Fault.{Fault}
+use Rattle.smithy_types.specs.declared.fault.FaultKind.{FaultKind}
+use Rattle.smithy_types.specs.declared.fault.FaultKind.TheVariants.{Interceptor, Operation, Connector, Timeout, Response, Other}
+use Rattle.smithy_types.specs.declared.fault.Outcome.{Outcome}
+use Rattle.smithy_types.specs.declared.fault.Outcome.TheVariants.{Output, Failed}
+use Rattle.smithy_types.specs.declared.fault.SdkError.{SdkError}
+use Rattle.smithy_types.specs.declared.fault.SdkError.TheVariants.{ConstructionFailure, TimeoutError, DispatchFailure, ResponseError, ServiceError}
+use Rattle.smithy_types.specs.declared.http.HttpResponse.{HttpResponse}
+use Rattle.smithy_types.specs.declared.kinds.Phase.{Phase}
+use Rattle.smithy_types.specs.declared.kinds.Phase.TheVariants.{BeforeSerialization, Serialization}
+use Rattle.smithy_types.specs.declared.payload.Payload.{Payload}
+
+abbrev pub is_failure : Option Outcome → Bool
+is_failure (Some (Failed fault)) = true
+is_failure _ = false
+
+-- with no response held: the connection's fault
+abbrev pub later_error : Fault → Option HttpResponse → SdkError Payload
+later_error f (Some r) = ResponseError f r
+later_error f None = DispatchFailure f
+
+-- up to serialization nothing was built, and later a held response tells
+abbrev pub untyped_error : Fault → Phase → Option HttpResponse → SdkError Payload
+untyped_error f BeforeSerialization r = ConstructionFailure f
+untyped_error f Serialization r = ConstructionFailure f
+untyped_error f _ r = later_error f r
+
+abbrev pub response_error : Fault → Phase → Option HttpResponse → SdkError Payload
+response_error f p (Some r) = ResponseError f r
+response_error f p None = untyped_error f p None
+
+abbrev pub operation_error : Payload → Fault → Phase → Option HttpResponse → SdkError Payload
+operation_error e f p (Some r) = ServiceError e r
+operation_error e f p None = untyped_error f p None
+
+abbrev pub kind_error : FaultKind → Fault → Phase → Option HttpResponse → SdkError Payload
+kind_error (Connector k) f p r = DispatchFailure f
+kind_error Timeout f p r = TimeoutError f
+kind_error Response f p r = response_error f p r
+kind_error (Operation e) f p r = operation_error e f p r
+kind_error (Interceptor h) f p r = untyped_error f p r
+kind_error Other f p r = untyped_error f p r
+
+abbrev pub sdk_error_of : Fault → Phase → Option HttpResponse → SdkError Payload
+sdk_error_of f p r = kind_error f.kind f p r

@@ -1,0 +1,7 @@
+pub mod Setting
+pub mod Layer
+pub mod StandingLayers
+pub mod SettingsView
+pub mod Settings
+pub mod Failures
+pub mod Context

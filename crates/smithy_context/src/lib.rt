@@ -1,0 +1,14 @@
+//! Settings in layers, and the context of a run that interceptors and classifiers read.
+#![tactic(auto)]
+
+pub mod setting;
+pub mod layer;
+pub mod settings;
+pub mod intercept;
+pub mod context;
+
+pub use context::{InterceptorContext, RewindResult};
+pub use intercept::{Change, HookAnswer, HookView};
+pub use layer::{Layer, LayerEntry};
+pub use setting::{Setting, SettingKey};
+pub use settings::{FrozenLayer, Settings};

@@ -1,0 +1,148 @@
+//! One setting of a client or an operation.
+ghost use Rattle.std.specs.Prelude.{◌≡◌, IfOk};
+ghost use Rattle.smithy_context.specs.Setting.{key_of, same_key};
+
+use smithy_types::RetryPartition;
+use smithy_types::{
+    Blob, List, OutOfMemory, RetryConfig, StalledStreamProtectionConfig, Text, TimeoutConfig,
+};
+use std::alloc::AllocError;
+
+/// A setting with its value. A mark has no value: it is there or it isn't.
+#[derive(Debug, Drop)]
+pub enum Setting {
+    Timeouts(TimeoutConfig),
+    Retry(RetryConfig),
+    Stall(StalledStreamProtectionConfig),
+    /// Whether the request's body is loaded into memory before the first attempt.
+    LoadBody(bool),
+    /// Which clients this one shares its retry quota with.
+    Partition(RetryPartition),
+    /// The number of the bucket that retries are paid from.
+    Bucket(u32),
+    /// What stands before the endpoint's host.
+    Prefix(Text),
+    /// The auth schemes in the order in which they are preferred.
+    Preference(List<Text>),
+    /// A mark: the endpoint is resolved after the auth scheme was chosen.
+    V2,
+    /// A mark: the parameters of the endpoint resolver are there.
+    EndpointParams,
+    /// A mark: the parameters of the auth scheme resolver are there.
+    AuthParams,
+    /// A mark: the response's length is held to its header.
+    EnforceLength,
+    /// The names of the interceptors that aren't run.
+    Disable(List<Text>),
+    /// The number of the attempt whose connection is captured.
+    Capture(u64),
+    /// The number of the attempt whose connection isn't used again.
+    Poisoned(u64),
+    /// A mark: the upload is watched for stalls.
+    Upload,
+    /// A setting of the caller's own.
+    User(Text, Blob),
+}
+
+/// What a setting is known by.
+#[derive(Debug, Drop)]
+pub enum SettingKey {
+    Timeouts,
+    Retry,
+    Stall,
+    LoadBody,
+    Partition,
+    Bucket,
+    Prefix,
+    Preference,
+    V2,
+    EndpointParams,
+    AuthParams,
+    EnforceLength,
+    Disable,
+    Capture,
+    Poisoned,
+    Upload,
+    User(Text),
+}
+
+impl Setting {
+    /// What the setting is known by.
+    pub fn key(&self) -> Result<SettingKey, OutOfMemory>
+        ensures { IfOk result (λ key. key ≡ key_of self.now) }
+    {
+        match self {
+            Setting::Timeouts(_) => Ok(SettingKey::Timeouts),
+            Setting::Retry(_) => Ok(SettingKey::Retry),
+            Setting::Stall(_) => Ok(SettingKey::Stall),
+            Setting::LoadBody(_) => Ok(SettingKey::LoadBody),
+            Setting::Partition(_) => Ok(SettingKey::Partition),
+            Setting::Bucket(_) => Ok(SettingKey::Bucket),
+            Setting::Prefix(_) => Ok(SettingKey::Prefix),
+            Setting::Preference(_) => Ok(SettingKey::Preference),
+            Setting::V2 => Ok(SettingKey::V2),
+            Setting::EndpointParams => Ok(SettingKey::EndpointParams),
+            Setting::AuthParams => Ok(SettingKey::AuthParams),
+            Setting::EnforceLength => Ok(SettingKey::EnforceLength),
+            Setting::Disable(_) => Ok(SettingKey::Disable),
+            Setting::Capture(_) => Ok(SettingKey::Capture),
+            Setting::Poisoned(_) => Ok(SettingKey::Poisoned),
+            Setting::Upload => Ok(SettingKey::Upload),
+            Setting::User(name, _) => Ok(SettingKey::User(name.clone()?)),
+        }
+    }
+}
+
+impl SettingKey {
+    /// Whether the two are one key.
+    pub fn same(&self, other: &SettingKey) -> bool
+        ensures { result ≡ same_key self.now other.now }
+    {
+        match (self, other) {
+            (SettingKey::Timeouts, SettingKey::Timeouts) => true,
+            (SettingKey::Retry, SettingKey::Retry) => true,
+            (SettingKey::Stall, SettingKey::Stall) => true,
+            (SettingKey::LoadBody, SettingKey::LoadBody) => true,
+            (SettingKey::Partition, SettingKey::Partition) => true,
+            (SettingKey::Bucket, SettingKey::Bucket) => true,
+            (SettingKey::Prefix, SettingKey::Prefix) => true,
+            (SettingKey::Preference, SettingKey::Preference) => true,
+            (SettingKey::V2, SettingKey::V2) => true,
+            (SettingKey::EndpointParams, SettingKey::EndpointParams) => true,
+            (SettingKey::AuthParams, SettingKey::AuthParams) => true,
+            (SettingKey::EnforceLength, SettingKey::EnforceLength) => true,
+            (SettingKey::Disable, SettingKey::Disable) => true,
+            (SettingKey::Capture, SettingKey::Capture) => true,
+            (SettingKey::Poisoned, SettingKey::Poisoned) => true,
+            (SettingKey::Upload, SettingKey::Upload) => true,
+            (SettingKey::User(name), SettingKey::User(other_name)) => name == other_name,
+            _ => false,
+        }
+    }
+}
+
+impl Clone for SettingKey {
+    ghost is_clone = { λ key copy. copy ≡ key };
+
+    fn clone(&self) -> Result<SettingKey, AllocError> {
+        match self {
+            SettingKey::Timeouts => Ok(SettingKey::Timeouts),
+            SettingKey::Retry => Ok(SettingKey::Retry),
+            SettingKey::Stall => Ok(SettingKey::Stall),
+            SettingKey::LoadBody => Ok(SettingKey::LoadBody),
+            SettingKey::Partition => Ok(SettingKey::Partition),
+            SettingKey::Bucket => Ok(SettingKey::Bucket),
+            SettingKey::Prefix => Ok(SettingKey::Prefix),
+            SettingKey::Preference => Ok(SettingKey::Preference),
+            SettingKey::V2 => Ok(SettingKey::V2),
+            SettingKey::EndpointParams => Ok(SettingKey::EndpointParams),
+            SettingKey::AuthParams => Ok(SettingKey::AuthParams),
+            SettingKey::EnforceLength => Ok(SettingKey::EnforceLength),
+            SettingKey::Disable => Ok(SettingKey::Disable),
+            SettingKey::Capture => Ok(SettingKey::Capture),
+            SettingKey::Poisoned => Ok(SettingKey::Poisoned),
+            SettingKey::Upload => Ok(SettingKey::Upload),
+            SettingKey::User(name) => Ok(SettingKey::User(name.clone()?)),
+        }
+    }
+}

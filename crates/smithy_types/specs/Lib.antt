@@ -1,0 +1,3 @@
+pub mod HeaderList
+pub mod ListItems
+pub mod Partition

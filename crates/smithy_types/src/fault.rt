@@ -1,0 +1,89 @@
+//! What went wrong in a run, and what stands at its end.
+ghost use Rattle.std.specs.Prelude.{◌≡◌};
+
+use crate::HttpResponse;
+use crate::{ConnectorKind, Hook, Payload, Text};
+use std::alloc::AllocError;
+
+/// What a fault comes from.
+#[derive(Debug, Drop)]
+pub enum FaultKind {
+    /// An interceptor failed at this hook.
+    Interceptor(Hook),
+    /// The service answered an error of the operation's model.
+    Operation(Payload),
+    /// The request could not be sent, or no response came.
+    Connector(ConnectorKind),
+    /// A deadline passed.
+    Timeout,
+    /// A response came that could not be read.
+    Response,
+    /// Anything else.
+    Other,
+}
+
+impl Clone for FaultKind {
+    ghost is_clone = { λ kind copy. copy ≡ kind };
+
+    fn clone(&self) -> Result<FaultKind, AllocError> {
+        match self {
+            FaultKind::Interceptor(hook) => Ok(FaultKind::Interceptor(*hook)),
+            FaultKind::Operation(payload) => Ok(FaultKind::Operation(payload.clone()?)),
+            FaultKind::Connector(kind) => Ok(FaultKind::Connector(*kind)),
+            FaultKind::Timeout => Ok(FaultKind::Timeout),
+            FaultKind::Response => Ok(FaultKind::Response),
+            FaultKind::Other => Ok(FaultKind::Other),
+        }
+    }
+}
+
+/// A failure: what it comes from, and a text for people.
+#[derive(Debug, Drop)]
+pub struct Fault {
+    pub kind: FaultKind,
+    pub text: Text,
+}
+
+impl Clone for Fault {
+    ghost is_clone = { λ fault copy. copy ≡ fault };
+
+    fn clone(&self) -> Result<Fault, AllocError> {
+        Ok(Fault {
+            kind: self.kind.clone()?,
+            text: self.text.clone()?,
+        })
+    }
+}
+
+/// What an attempt, and in the end a run, comes to.
+#[derive(Debug, Drop)]
+pub enum Outcome {
+    Output(Payload),
+    Failed(Fault),
+}
+
+impl Clone for Outcome {
+    ghost is_clone = { λ outcome copy. copy ≡ outcome };
+
+    fn clone(&self) -> Result<Outcome, AllocError> {
+        match self {
+            Outcome::Output(payload) => Ok(Outcome::Output(payload.clone()?)),
+            Outcome::Failed(fault) => Ok(Outcome::Failed(fault.clone()?)),
+        }
+    }
+}
+
+/// The error of an operation, as in the Rust crate's `SdkError`.
+#[derive(Debug, Drop)]
+pub enum SdkError<E> {
+    /// The request was never built.
+    ConstructionFailure(Fault),
+    /// A deadline passed.
+    TimeoutError(Fault),
+    /// The request was not sent, or no response came.
+    DispatchFailure(Fault),
+    /// A response came that could not be read.
+    ResponseError(Fault, HttpResponse),
+    /// The service answered with an error of the operation's model.
+    ServiceError(E, HttpResponse),
+}

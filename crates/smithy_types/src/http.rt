@@ -1,0 +1,143 @@
+//! Requests and responses, as the engine hands them on.
+ghost use Rattle.std.specs.Prelude.{◌≡◌, [], ◌==◌, length, IfOk, IfSome, IsSome, ◌↔◌, ◌≢◌};
+
+use crate::{Blob, OutOfMemory, Text};
+use http_header::HeaderMap;
+use std::alloc::{AllocError, Global};
+use std::fmt;
+use std::marker::Model;
+use std::rc::Rc;
+
+/// A header list that is shared and never changes: a copy costs the same however long it is.
+#[derive(Drop)]
+pub struct Headers {
+    map: Option<Rc<HeaderMap>>,
+}
+
+impl Model for Headers {
+    ghost use Rattle.smithy_types.specs.HeaderList.{HeaderList, headers_of};
+    ghost use Rattle.std.specs.Coded.{coded_list, coded×, coded_ℕ};
+    ghost use Rattle.http_header.specs.FieldValue.{field_value_code};
+
+    ghost Value = { HeaderList };
+
+    ghost coded = { coded_list (coded× (coded_list coded_ℕ) (coded_list field_value_code)) };
+
+    ghost view = { λ h. headers_of h.map };
+}
+
+impl Headers {
+    /// The list without headers. It takes no memory.
+    pub fn new() -> Headers
+        ensures { result ≡ [] }
+    {
+        Headers { map: None }
+    }
+
+    /// The headers of this map, which is moved and not copied.
+    pub fn from_map(alloc: Global, map: HeaderMap) -> Result<Headers, OutOfMemory>
+        ensures { IfOk result (λ h. h ≡ map) }
+    {
+        Ok(Headers {
+            map: Some(Rc::new(alloc, map)?),
+        })
+    }
+
+    /// The map of the headers. A list that was made without a map has none, and no header either.
+    pub fn as_map(&self) -> Option<&HeaderMap>
+        ensures value { IfSome result (λ m. m.now ≡ self.now) }
+        ensures found { self.now ≢ [] → IsSome result }
+    {
+        match &self.map {
+            Some(map) => Some(Rc::as_ref(map)),
+            None => None,
+        }
+    }
+}
+
+impl Clone for Headers {
+    ghost is_clone = { λ headers copy. copy ≡ headers };
+
+    fn clone(&self) -> Result<Headers, AllocError> {
+        match &self.map {
+            Some(map) => Ok(Headers {
+                map: Some(map.clone()?),
+            }),
+            None => Ok(Headers { map: None }),
+        }
+    }
+}
+
+impl fmt::Debug for Headers {
+    fn fmt<W: fmt::Write>(&self, f: &mut fmt::Formatter<W>) -> fmt::Result {
+        match self.as_map() {
+            Some(map) => fmt::Debug::fmt(map, f),
+            None => write!(f, "{{}}"),
+        }
+    }
+}
+
+/// The body of a request or a response.
+#[derive(Debug, Drop)]
+pub enum Body {
+    /// Bytes in memory, which can be copied, and so sent again.
+    Bytes(Blob),
+    /// Bytes that can be sent once. They can't be copied for a further attempt.
+    Once(Blob),
+    /// The bytes are gone.
+    Taken,
+}
+
+impl Clone for Body {
+    ghost is_clone = { λ body copy. copy ≡ body };
+
+    fn clone(&self) -> Result<Body, AllocError> {
+        match self {
+            Body::Bytes(bytes) => Ok(Body::Bytes(bytes.clone()?)),
+            Body::Once(bytes) => Ok(Body::Once(bytes.clone()?)),
+            Body::Taken => Ok(Body::Taken),
+        }
+    }
+}
+
+/// A request of HTTP.
+#[derive(Debug, Drop)]
+pub struct HttpRequest {
+    pub method: Text,
+    pub uri: Text,
+    pub headers: Headers,
+    pub body: Body,
+}
+
+impl Clone for HttpRequest {
+    ghost is_clone = { λ request copy. copy ≡ request };
+
+    fn clone(&self) -> Result<HttpRequest, AllocError> {
+        Ok(HttpRequest {
+            method: self.method.clone()?,
+            uri: self.uri.clone()?,
+            headers: self.headers.clone()?,
+            body: self.body.clone()?,
+        })
+    }
+}
+
+/// A response of HTTP.
+#[derive(Debug, Drop)]
+pub struct HttpResponse {
+    pub status: u16,
+    pub headers: Headers,
+    pub body: Body,
+}
+
+impl Clone for HttpResponse {
+    ghost is_clone = { λ response copy. copy ≡ response };
+
+    fn clone(&self) -> Result<HttpResponse, AllocError> {
+        Ok(HttpResponse {
+            status: self.status,
+            headers: self.headers.clone()?,
+            body: self.body.clone()?,
+        })
+    }
+}
