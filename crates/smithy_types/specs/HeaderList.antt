@@ -1,6 +1,6 @@
 -- The header list behind a handle that may not have its map yet.
 use Rattle.std.specs.Prelude.{Option, None, Some, ℕ, List, []}
-use Rattle.std.specs.declared.rc.Rc.{Rc}
+use Rattle.std.specs.declared.sync.Arc.{Arc}
 use Rattle.std.specs.Global.{Global}
 use Rattle.http_header.specs.HeaderMap.{Entries}
 use Rattle.http_header.specs.FieldValue.{FieldValue}
@@ -9,6 +9,6 @@ use Rattle.http_header.specs.FieldValue.{FieldValue}
 abbrev pub HeaderList : Type 0
 HeaderList = Entries FieldValue
 
-abbrev pub headers_of : Option (Rc HeaderList Global) → HeaderList
+abbrev pub headers_of : Option (Arc HeaderList Global) → HeaderList
 headers_of None = []
 headers_of (Some shared) = shared.value

@@ -33,6 +33,8 @@ pub enum ReconnectMode {
 #[derive(Clone, Copy, Debug, PartialEq, Eq)]
 pub enum RetrySpecVersion {
     V2_0,
+    /// Each attempt but the first asks for a token of its own, and a refused retry may still pause.
+    V2_1,
 }
 
 /// Which specification of retries holds, and what it adds.

@@ -6,12 +6,12 @@ use http_header::HeaderMap;
 use std::alloc::{AllocError, Global};
 use std::fmt;
 use std::marker::Model;
-use std::rc::Rc;
+use std::sync::Arc;
 
 /// A header list that is shared and never changes: a copy costs the same however long it is.
 #[derive(Drop)]
 pub struct Headers {
-    map: Option<Rc<HeaderMap>>,
+    map: Option<Arc<HeaderMap>>,
 }
 
 impl Model for Headers {
@@ -39,7 +39,7 @@ impl Headers {
         ensures { IfOk result (λ h. h ≡ map) }
     {
         Ok(Headers {
-            map: Some(Rc::new(alloc, map)?),
+            map: Some(Arc::new(alloc, map)?),
         })
     }
 
@@ -49,7 +49,7 @@ impl Headers {
         ensures found { self.now ≢ [] → IsSome result }
     {
         match &self.map {
-            Some(map) => Some(Rc::as_ref(map)),
+            Some(map) => Some(Arc::as_ref(map)),
             None => None,
         }
     }

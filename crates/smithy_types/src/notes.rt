@@ -29,6 +29,8 @@ pub enum ChooseNote {
 pub enum Choice {
     Yes,
     No,
+    /// No, but the caller pauses for so many nanoseconds before it is told.
+    NoAfter(u64),
     /// Yes, after so many nanoseconds.
     Delay(u64),
 }

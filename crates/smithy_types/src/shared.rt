@@ -4,13 +4,13 @@ use crate::OutOfMemory;
 use std::alloc::{AllocError, Global};
 use std::fmt;
 use std::marker::Model;
-use std::rc::Rc;
+use std::sync::Arc;
 
 /// A value that is shared and never changes: a copy of the handle costs the same however large the
 /// value is.
 #[derive(Drop)]
 pub struct Shared<T> {
-    held: Rc<T>,
+    held: Arc<T>,
 }
 
 impl<T> Model for Shared<T> {
@@ -25,7 +25,7 @@ impl<T: Drop> Shared<T> {
         ensures { IfOk result (λ s. s ≡ value) }
     {
         Ok(Shared {
-            held: Rc::new(alloc, value)?,
+            held: Arc::new(alloc, value)?,
         })
     }
 
@@ -33,7 +33,7 @@ impl<T: Drop> Shared<T> {
     pub fn get(&self) -> &T
         ensures { result.now ≡ self.now }
     {
-        Rc::as_ref(&self.held)
+        Arc::as_ref(&self.held)
     }
 }
 
