@@ -1,5 +1,5 @@
 -- From a failure to the error that a caller sees, as the Rust crate's orchestrator maps it.
-use Rattle.std.specs.Prelude.{Bool, true, false, Option, Some, None}
+use Rattle.std.specs.Prelude.{Bool, true, false, cond, Option, Some, None}
 use Rattle.smithy_types.specs.declared.fault.Fault.{Fault}
 use Rattle.smithy_types.specs.declared.fault.FaultKind.{FaultKind}
 use Rattle.smithy_types.specs.declared.fault.FaultKind.TheVariants.{Interceptor, Operation, Connector, Timeout, Response, Other}
@@ -16,16 +16,20 @@ abbrev pub is_failure : Option Outcome → Bool
 is_failure (Some (Failed fault)) = true
 is_failure _ = false
 
--- with no response held: the connection's fault
+-- up to serialization the request wasn't built
+abbrev pub is_building : Phase → Bool
+is_building BeforeSerialization = true
+is_building Serialization = true
+is_building _ = false
+
+-- a failure whose kind says nothing of where it came: up to serialization nothing was built, and later a held
+-- response tells
 abbrev pub later_error : Fault → Option HttpResponse → SdkError Payload
 later_error f (Some r) = ResponseError f r
 later_error f None = DispatchFailure f
 
--- up to serialization nothing was built, and later a held response tells
 abbrev pub untyped_error : Fault → Phase → Option HttpResponse → SdkError Payload
-untyped_error f BeforeSerialization r = ConstructionFailure f
-untyped_error f Serialization r = ConstructionFailure f
-untyped_error f _ r = later_error f r
+untyped_error f p r = cond (is_building p) (ConstructionFailure f) (later_error f r)
 
 abbrev pub response_error : Fault → Phase → Option HttpResponse → SdkError Payload
 response_error f p (Some r) = ResponseError f r
@@ -45,3 +49,8 @@ kind_error Other f p r = untyped_error f p r
 
 abbrev pub sdk_error_of : Fault → Phase → Option HttpResponse → SdkError Payload
 sdk_error_of f p r = kind_error f.kind f p r
+
+-- the service's own error, and any other failure as one of the response
+abbrev pub modelled_error : FaultKind → Fault → HttpResponse → SdkError Payload
+modelled_error (Operation e) f r = ServiceError e r
+modelled_error _ f r = ResponseError f r

@@ -1,13 +1,12 @@
 //! The context of a run that interceptors and retry classifiers read.
 ghost use Rattle.std.specs.Prelude.{◌≡◌, Some, None, IfOk, OnOk, OnErr, option_copied, IsTrue};
-ghost use Rattle.smithy_context.specs.Failures.{sdk_error_of, untyped_error, is_failure};
+ghost use Rattle.smithy_context.specs.Failures.{sdk_error_of, modelled_error, is_building, is_failure};
 ghost use Rattle.smithy_context.specs.Context.{view_of, failed_with, checkpointed, restored, Rewinds, opened};
 
-use crate::intercept::copy_request;
 use crate::{HookView, Settings};
 use smithy_types::{
     Body, Fault, FaultKind, HttpRequest, HttpResponse, OutOfMemory, Outcome, Payload, Phase,
-    SdkError,
+    SdkError, Shared,
 };
 
 /// What stands in a run of an operation.
@@ -17,7 +16,7 @@ pub struct InterceptorContext {
     pub view: HookView,
     pub phase: Phase,
     /// The request as it stood before the first attempt, where it can be copied.
-    pub checkpoint: Option<HttpRequest>,
+    pub checkpoint: Option<Shared<HttpRequest>>,
     /// Whether a rewind was asked for before.
     pub tainted: bool,
 }
@@ -78,7 +77,7 @@ impl InterceptorContext {
         ensures err { OnErr result (self.new ≡ self.old) }
     {
         let copy = match &self.view.request {
-            Some(request) => match &request.body {
+            Some(request) => match &request.get().body {
                 Body::Bytes(_) => Some(request.clone()?),
                 _ => None,
             },
@@ -114,7 +113,7 @@ impl InterceptorContext {
         if self.checkpoint.is_none() {
             return Ok(());
         }
-        let request = copy_request(&self.checkpoint)?;
+        let request = self.checkpoint.clone()?;
         self.view.request = request;
         self.view.response = None;
         self.view.outcome = None;
@@ -138,13 +137,13 @@ impl InterceptorContext {
     pub fn request(&self) -> Option<&HttpRequest>
         ensures { option_copied result ≡ self.now.view.request }
     {
-        self.view.request.as_ref()
+        self.view.request.as_ref().map(|request| request.get())
     }
 
     pub fn response(&self) -> Option<&HttpResponse>
         ensures { option_copied result ≡ self.now.view.response }
     {
-        self.view.response.as_ref()
+        self.view.response.as_ref().map(|response| response.get())
     }
 
     pub fn outcome(&self) -> Option<&Outcome>
@@ -176,7 +175,7 @@ impl InterceptorContext {
     pub fn checkpoint(&self) -> Option<&HttpRequest>
         ensures { option_copied result ≡ self.now.checkpoint }
     {
-        self.checkpoint.as_ref()
+        self.checkpoint.as_ref().map(|request| request.get())
     }
 
     /// The error that a failure gives, by its kind, the phase and whether a response is held.
@@ -187,39 +186,63 @@ impl InterceptorContext {
     ) -> SdkError<Payload>
         ensures { result ≡ sdk_error_of fault phase response }
     {
-        let Fault { kind, text } = fault;
-        match kind {
-            FaultKind::Connector(_) => SdkError::DispatchFailure(Fault { kind, text }),
-            FaultKind::Timeout => SdkError::TimeoutError(Fault { kind, text }),
-            FaultKind::Operation(payload) => match response {
-                Some(response) => SdkError::ServiceError(payload, response),
-                None => untyped(
-                    Fault {
-                        kind: FaultKind::Operation(payload),
-                        text,
-                    },
-                    phase,
-                    None,
-                ),
-            },
-            FaultKind::Response => match response {
-                Some(response) => SdkError::ResponseError(Fault { kind, text }, response),
-                None => untyped(Fault { kind, text }, phase, None),
-            },
-            _ => untyped(Fault { kind, text }, phase, response),
+        match response {
+            Some(response) => answered(fault, phase, response),
+            None => unanswered(fault, phase),
         }
     }
 }
 
-// The error of a failure whose kind says nothing of where it came.
-fn untyped(fault: Fault, phase: Phase, response: Option<HttpResponse>) -> SdkError<Payload>
-    ensures { result ≡ untyped_error fault phase response }
+// The error of a failure where no response is held.
+fn unanswered(fault: Fault, phase: Phase) -> SdkError<Payload>
+    ensures { result ≡ sdk_error_of fault phase None }
 {
-    match phase {
-        Phase::BeforeSerialization | Phase::Serialization => SdkError::ConstructionFailure(fault),
-        _ => match response {
-            Some(response) => SdkError::ResponseError(fault, response),
-            None => SdkError::DispatchFailure(fault),
-        },
+    match &fault.kind {
+        FaultKind::Connector(_) => SdkError::DispatchFailure(fault),
+        FaultKind::Timeout => SdkError::TimeoutError(fault),
+        _ => {
+            if is_building(phase) {
+                SdkError::ConstructionFailure(fault)
+            } else {
+                SdkError::DispatchFailure(fault)
+            }
+        }
     }
+}
+
+// The error of a failure where a response is held.
+fn answered(fault: Fault, phase: Phase, response: HttpResponse) -> SdkError<Payload>
+    ensures { result ≡ sdk_error_of fault phase (Some response) }
+{
+    match &fault.kind {
+        FaultKind::Connector(_) => SdkError::DispatchFailure(fault),
+        FaultKind::Timeout => SdkError::TimeoutError(fault),
+        FaultKind::Operation(_) => modelled(fault, response),
+        FaultKind::Response => SdkError::ResponseError(fault, response),
+        _ => {
+            if is_building(phase) {
+                SdkError::ConstructionFailure(fault)
+            } else {
+                SdkError::ResponseError(fault, response)
+            }
+        }
+    }
+}
+
+// The service's own error, and any other failure as one of the response.
+fn modelled(fault: Fault, response: HttpResponse) -> SdkError<Payload>
+    ensures { result ≡ modelled_error fault.kind fault response }
+{
+    let Fault { kind, text } = fault;
+    match kind {
+        FaultKind::Operation(payload) => SdkError::ServiceError(payload, response),
+        kind => SdkError::ResponseError(Fault { kind, text }, response),
+    }
+}
+
+// Whether the request wasn't built yet.
+fn is_building(phase: Phase) -> bool
+    ensures { result ≡ is_building phase }
+{
+    matches!(phase, Phase::BeforeSerialization | Phase::Serialization)
 }

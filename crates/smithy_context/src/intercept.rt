@@ -1,19 +1,24 @@
 //! What interceptors see and answer.
-ghost use Rattle.std.specs.Prelude.{◌≡◌, None, [], IfOk};
+ghost use Rattle.std.specs.Prelude.{◌≡◌, None, []};
 
 use crate::{Layer, Settings};
-use smithy_types::{HttpRequest, HttpResponse, Outcome, Payload, Text};
+use smithy_types::{HttpRequest, HttpResponse, Outcome, Payload, Shared, Text};
 use std::alloc::AllocError;
 
 /// What a hook is shown.
 #[derive(Drop)]
 pub struct HookView {
+    /// The operation's input, up to serialization.
     pub input: Option<Payload>,
-    pub request: Option<HttpRequest>,
-    pub response: Option<HttpResponse>,
+    /// The request as it stands, from serialization on.
+    pub request: Option<Shared<HttpRequest>>,
+    /// The response of the present attempt, once it came.
+    pub response: Option<Shared<HttpResponse>>,
+    /// What the present attempt, or the run, has come to so far.
     pub outcome: Option<Outcome>,
     /// The number of the attempt, from 1; 0 before the first.
     pub attempt: u64,
+    /// The settings that stand.
     pub settings: Settings,
 }
 
@@ -22,62 +27,27 @@ impl Clone for HookView {
 
     fn clone(&self) -> Result<HookView, AllocError> {
         Ok(HookView {
-            input: copy_payload(&self.input)?,
-            request: copy_request(&self.request)?,
-            response: copy_response(&self.response)?,
-            outcome: copy_outcome(&self.outcome)?,
+            input: self.input.clone()?,
+            request: self.request.clone()?,
+            response: self.response.clone()?,
+            outcome: self.outcome.clone()?,
             attempt: self.attempt,
             settings: self.settings.clone()?,
         })
     }
 }
 
-fn copy_payload(payload: &Option<Payload>) -> Result<Option<Payload>, AllocError>
-    ensures { IfOk result (λ copy. copy ≡ payload.now) }
-{
-    match payload {
-        Some(payload) => Ok(Some(payload.clone()?)),
-        None => Ok(None),
-    }
-}
-
-/// A copy of a request, where there is one.
-pub fn copy_request(request: &Option<HttpRequest>) -> Result<Option<HttpRequest>, AllocError>
-    ensures { IfOk result (λ copy. copy ≡ request.now) }
-{
-    match request {
-        Some(request) => Ok(Some(request.clone()?)),
-        None => Ok(None),
-    }
-}
-
-/// A copy of a response, where there is one.
-pub fn copy_response(response: &Option<HttpResponse>) -> Result<Option<HttpResponse>, AllocError>
-    ensures { IfOk result (λ copy. copy ≡ response.now) }
-{
-    match response {
-        Some(response) => Ok(Some(response.clone()?)),
-        None => Ok(None),
-    }
-}
-
-/// A copy of an outcome, where there is one.
-pub fn copy_outcome(outcome: &Option<Outcome>) -> Result<Option<Outcome>, AllocError>
-    ensures { IfOk result (λ copy. copy ≡ outcome.now) }
-{
-    match outcome {
-        Some(outcome) => Ok(Some(outcome.clone()?)),
-        None => Ok(None),
-    }
-}
-
 /// A part of the run that a hook writes.
 #[derive(Drop)]
 pub enum Change {
+    /// The input becomes this.
     Input(Payload),
-    Request(HttpRequest),
-    Response(HttpResponse),
-    Outcome(Outcome),
+    /// The request becomes this.
+    Request(Shared<HttpRequest>),
+    /// The response becomes this.
+    Response(Shared<HttpResponse>),
+    /// What the attempt or the run has come to becomes this.
+    Outcome(Shared<Outcome>),
 }
 
 impl Clone for Change {
@@ -123,18 +93,10 @@ impl Clone for HookAnswer {
     ghost is_clone = { λ answer copy. copy ≡ answer };
 
     fn clone(&self) -> Result<HookAnswer, AllocError> {
-        let change = match &self.change {
-            Some(change) => Some(change.clone()?),
-            None => None,
-        };
-        let failure = match &self.failure {
-            Some(text) => Some(text.clone()?),
-            None => None,
-        };
         Ok(HookAnswer {
-            change,
+            change: self.change.clone()?,
             settings: self.settings.clone()?,
-            failure,
+            failure: self.failure.clone()?,
         })
     }
 }

@@ -1,11 +1,11 @@
 //! Settings in layers, and the context of a run that interceptors and classifiers read.
 #![tactic(auto)]
 
-pub mod setting;
-pub mod layer;
-pub mod settings;
-pub mod intercept;
 pub mod context;
+pub mod intercept;
+pub mod layer;
+pub mod setting;
+pub mod settings;
 
 pub use context::{InterceptorContext, RewindResult};
 pub use intercept::{Change, HookAnswer, HookView};

@@ -2,9 +2,9 @@
 ghost use Rattle.std.specs.Prelude.{◌≡◌, IfOk};
 ghost use Rattle.smithy_context.specs.Setting.{key_of, same_key};
 
-use smithy_types::RetryPartition;
 use smithy_types::{
-    Blob, List, OutOfMemory, RetryConfig, StalledStreamProtectionConfig, Text, TimeoutConfig,
+    Blob, List, OutOfMemory, RetryConfig, RetryPartition, StalledStreamProtectionConfig, Text,
+    TimeoutConfig,
 };
 use std::alloc::AllocError;
 
