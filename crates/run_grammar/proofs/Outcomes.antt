@@ -349,6 +349,7 @@ pub decided_stands : (n : Option ℕ) (a : Answer) (s : Standing) → fits kinds
     Has (changed kinds.Decide n a s) ⊎ ((answers_decided_yes a ≡ true) × (is_some (changed kinds.Decide n a s).context.checkpoint ≡ true))
 unfolding fits changed
 decided_stands n (answers.Decided choices.No m) s f h = inl h
+decided_stands n (answers.Decided (choices.NoAfter d) m) s f h = inl h
 decided_stands n (answers.Decided (choices.Delay d) m) s f h = inl h
 decided_stands n (answers.Decided choices.Yes m) s f h = either_back (went_back s.context.checkpoint s refl h)
   where

@@ -285,6 +285,7 @@ on_deserialize s _ = s
 abbrev pub decided_on : Standing → Choice → Standing
 decided_on s choices.Yes = rewound s
 decided_on s choices.No = s
+decided_on s (choices.NoAfter n) = with_delay s n
 decided_on s (choices.Delay n) = with_delay s n
 
 abbrev pub on_decide : Standing → Answer → Standing

@@ -13,7 +13,7 @@ use std::alloc::AllocError;
 pub struct Chosen {
     /// The scheme's id.
     pub scheme: Text,
-    pub identity: Identity,
+    pub identity: Shared<Identity>,
     /// The endpoint, where it was resolved already.
     pub endpoint: Option<Shared<Endpoint>>,
     /// What is set with the choice.
@@ -26,14 +26,10 @@ impl Clone for Chosen {
     ghost is_clone = { λ chosen copy. copy ≡ chosen };
 
     fn clone(&self) -> Result<Chosen, AllocError> {
-        let endpoint = match &self.endpoint {
-            Some(endpoint) => Some(endpoint.clone()?),
-            None => None,
-        };
         Ok(Chosen {
             scheme: self.scheme.clone()?,
             identity: self.identity.clone()?,
-            endpoint,
+            endpoint: self.endpoint.clone()?,
             settings: self.settings.clone()?,
             note: self.note,
         })
@@ -51,7 +47,7 @@ pub enum Answer {
     ConnectorFailed(ConnectorKind, Text),
     Layer(Layer),
     Hooked(HookAnswer),
-    Request(HttpRequest),
+    Request(Shared<HttpRequest>),
     /// The request's body, in memory.
     Loaded(Blob),
     /// A first attempt is made.
@@ -65,10 +61,10 @@ pub enum Answer {
     Ready,
     Chosen(Chosen),
     Endpoint(Shared<Endpoint>),
-    Response(HttpResponse),
+    Response(Shared<HttpResponse>),
     /// The operation doesn't stream: its body is read.
     NotStreaming,
-    Outcome(Outcome),
+    Outcome(Shared<Outcome>),
     /// The response's body, whole.
     Read(Blob),
     Decided(Choice, Option<DecideNote>),

@@ -3,10 +3,12 @@ ghost use Rattle.std.specs.Prelude.{◌≡◌, None, true, IfOk, OnOk, OnErr};
 ghost use Rattle.run_grammar.specs.Change as change;
 ghost use Rattle.run_grammar.specs.Writes.{writes_input, writes_request, writes_response, writes_outcome};
 
-use crate::standing::{copy_endpoint, copy_text};
 use crate::{Answer, Chosen, ConfigureStage, Kind, Role, Standing};
 use smithy_context::{Change, HookAnswer, Layer};
-use smithy_types::{Body, Choice, Fault, FaultKind, Hook, OutOfMemory, Outcome, Phase, Text};
+use smithy_types::{
+    Blob, Body, Choice, Fault, FaultKind, Hook, HttpRequest, HttpResponse, OutOfMemory, Outcome,
+    Phase, Shared, Text,
+};
 use std::alloc::Global;
 
 const ABSENT: &'static str = "absent";
@@ -32,7 +34,7 @@ impl Standing {
             Kind::Configure(stage) => self.configured(alloc, stage, answer),
             Kind::Hook(hook) => self.hooked(alloc, hook, answer),
             Kind::Serialize => self.serialized(answer),
-            Kind::Load => self.loaded(answer),
+            Kind::Load => self.loaded(alloc, answer),
             Kind::Initial => self.granted(answer),
             Kind::Start(role) => self.started(role, nanos, answer),
             Kind::Wait(role) => self.waited(alloc, role, answer),
@@ -41,7 +43,7 @@ impl Standing {
             Kind::Apply | Kind::Sign => self.rewritten(answer),
             Kind::Transmit => self.transmitted(answer),
             Kind::Stream => self.streamed(answer),
-            Kind::Body => self.body_read(answer),
+            Kind::Body => self.body_read(alloc, answer),
             Kind::Deserialize => self.deserialized(answer),
             Kind::Decide => self.decided(answer),
             Kind::Abandon(_) | Kind::Park => Ok(()),
@@ -130,43 +132,58 @@ impl Standing {
         ensures ok { OnOk result (self.new ≡ change.hooked_by hook self.old answer.now) }
         ensures err { OnErr result (self.new ≡ self.old) }
     {
-        let written = copy_change(&answer.change)?;
-        let failure = copy_text(&answer.failure)?;
-        self.context.view.settings.merge(alloc, &answer.settings)?;
-        self.write(hook, written);
+        let failure = answer.failure.clone()?;
+        let mut settings = self.context.view.settings.clone()?;
+        settings.merge(alloc, &answer.settings)?;
+        self.write_any(hook, &answer.change)?;
+        self.context.view.settings = settings;
         if let Some(text) = failure {
             self.fail(FaultKind::Interceptor(hook), text);
         }
         Ok(())
     }
 
-    // Makes the change that this hook may write, and ignores any other.
-    fn write(&mut self, hook: Hook, written: Option<Change>)
-        ensures { self.new ≡ change.written_by hook self.old written }
+    // Makes the change of a hook, where it has one that it may write.
+    fn write_any(&mut self, hook: Hook, written: &Option<Change>) -> Result<(), OutOfMemory>
+        ensures ok { OnOk result (self.new ≡ change.written_by hook self.old written.now) }
+        ensures kept { OnOk result (self.new.context.view.settings ≡ self.old.context.view.settings) }
+        ensures err { OnErr result (self.new ≡ self.old) }
     {
         match written {
-            Some(Change::Input(input)) => {
-                if writes_input(hook) {
-                    self.context.view.input = Some(input);
-                }
-            }
-            Some(Change::Request(request)) => {
-                if writes_request(hook) {
-                    self.context.view.request = Some(request);
-                }
-            }
-            Some(Change::Response(response)) => {
-                if writes_response(hook) {
-                    self.context.view.response = Some(response);
-                }
-            }
-            Some(Change::Outcome(outcome)) => {
-                if writes_outcome(hook) {
-                    self.context.view.outcome = Some(outcome);
-                }
-            }
-            None => {}
+            Some(written) => self.write(hook, written),
+            None => Ok(()),
         }
+    }
+
+    // Makes the change that this hook may write, and ignores any other.
+    fn write(&mut self, hook: Hook, written: &Change) -> Result<(), OutOfMemory>
+        ensures ok { OnOk result (self.new ≡ change.written hook self.old written.now) }
+        ensures kept { OnOk result (self.new.context.view.settings ≡ self.old.context.view.settings) }
+        ensures err { OnErr result (self.new ≡ self.old) }
+    {
+        match written {
+            Change::Input(changed) => {
+                if writes_input(hook) {
+                    self.context.view.input = Some(changed.clone()?);
+                }
+            }
+            Change::Request(changed) => {
+                if writes_request(hook) {
+                    self.context.view.request = Some(changed.clone()?);
+                }
+            }
+            Change::Response(changed) => {
+                if writes_response(hook) {
+                    self.context.view.response = Some(changed.clone()?);
+                }
+            }
+            Change::Outcome(changed) => {
+                if writes_outcome(hook) {
+                    self.context.view.outcome = Some(changed.get().clone()?);
+                }
+            }
+        }
+        Ok(())
     }
 
     fn serialized(&mut self, answer: &Answer) -> Result<(), OutOfMemory>
@@ -208,16 +225,14 @@ impl Standing {
         self.context.phase = Phase::Serialization;
     }
 
-    fn loaded(&mut self, answer: &Answer) -> Result<(), OutOfMemory>
+    fn loaded(&mut self, alloc: Global, answer: &Answer) -> Result<(), OutOfMemory>
         ensures ok { OnOk result (self.new ≡ change.on_load self.old answer.now) }
         ensures err { OnErr result (self.new ≡ self.old) }
     {
         match answer {
             Answer::Loaded(bytes) => {
-                let body = Body::Bytes(bytes.clone()?);
-                if let Some(request) = &mut self.context.view.request {
-                    request.body = body;
-                }
+                let request = request_with(alloc, &self.context.view.request, bytes.clone()?)?;
+                self.context.view.request = request;
                 self.context.phase = Phase::BeforeTransmit;
                 Ok(())
             }
@@ -335,7 +350,7 @@ impl Standing {
     {
         let scheme = chosen.scheme.clone()?;
         let identity = chosen.identity.clone()?;
-        let endpoint = copy_endpoint(&chosen.endpoint)?;
+        let endpoint = chosen.endpoint.clone()?;
         self.context.view.settings.merge(alloc, &chosen.settings)?;
         self.scheme = Some(scheme);
         self.identity = Some(identity);
@@ -399,7 +414,7 @@ impl Standing {
         ensures err { OnErr result (self.new ≡ self.old) }
     {
         match answer {
-            Answer::Outcome(outcome) => self.settle(outcome),
+            Answer::Outcome(outcome) => self.settle(outcome.get()),
             Answer::Absent => {
                 self.settle_absent();
                 Ok(())
@@ -411,16 +426,14 @@ impl Standing {
         }
     }
 
-    fn body_read(&mut self, answer: &Answer) -> Result<(), OutOfMemory>
+    fn body_read(&mut self, alloc: Global, answer: &Answer) -> Result<(), OutOfMemory>
         ensures ok { OnOk result (self.new ≡ change.on_body self.old answer.now) }
         ensures err { OnErr result (self.new ≡ self.old) }
     {
         match answer {
             Answer::Read(bytes) => {
-                let body = Body::Bytes(bytes.clone()?);
-                if let Some(response) = &mut self.context.view.response {
-                    response.body = body;
-                }
+                let response = response_with(alloc, &self.context.view.response, bytes.clone()?)?;
+                self.context.view.response = response;
                 Ok(())
             }
             Answer::Failed(text) => {
@@ -442,7 +455,7 @@ impl Standing {
         ensures err { OnErr result (self.new ≡ self.old) }
     {
         match answer {
-            Answer::Outcome(outcome) => self.settle(outcome),
+            Answer::Outcome(outcome) => self.settle(outcome.get()),
             Answer::Absent => {
                 self.settle_absent();
                 Ok(())
@@ -476,7 +489,7 @@ impl Standing {
             Answer::Decided(choice, _) => match choice {
                 Choice::Yes => self.rewind(),
                 Choice::No => Ok(()),
-                Choice::Delay(nanos) => {
+                Choice::NoAfter(nanos) | Choice::Delay(nanos) => {
                     self.delay = Some(*nanos);
                     Ok(())
                 }
@@ -486,13 +499,45 @@ impl Standing {
     }
 }
 
-fn copy_change(part: &Option<Change>) -> Result<Option<Change>, OutOfMemory>
-    ensures { IfOk result (λ copy. copy ≡ part.now) }
+// The request with these bytes as its body, where one stands.
+fn request_with(
+    alloc: Global,
+    request: &Option<Shared<HttpRequest>>,
+    bytes: Blob,
+) -> Result<Option<Shared<HttpRequest>>, OutOfMemory>
+    ensures { IfOk result (λ r. r ≡ change.with_body request.now bytes) }
 {
-    match part {
-        Some(part) => Ok(Some(part.clone()?)),
-        None => Ok(None),
-    }
+    let Some(request) = request else {
+        return Ok(None);
+    };
+    let request = request.get();
+    let changed = HttpRequest {
+        method: request.method.clone()?,
+        uri: request.uri.clone()?,
+        headers: request.headers.clone()?,
+        body: Body::Bytes(bytes),
+    };
+    Ok(Some(Shared::new(alloc, changed)?))
+}
+
+// The response with these bytes as its body, where one stands.
+fn response_with(
+    alloc: Global,
+    response: &Option<Shared<HttpResponse>>,
+    bytes: Blob,
+) -> Result<Option<Shared<HttpResponse>>, OutOfMemory>
+    ensures { IfOk result (λ r. r ≡ change.with_response_body response.now bytes) }
+{
+    let Some(response) = response else {
+        return Ok(None);
+    };
+    let response = response.get();
+    let changed = HttpResponse {
+        status: response.status,
+        headers: response.headers.clone()?,
+        body: Body::Bytes(bytes),
+    };
+    Ok(Some(Shared::new(alloc, changed)?))
 }
 
 fn operation_timeout_text(alloc: Global, nanos: u64) -> Result<Text, OutOfMemory>

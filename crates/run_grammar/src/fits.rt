@@ -96,7 +96,7 @@ impl Answer {
             Answer::ConnectorFailed(_, _) => true,
             Answer::No => true,
             Answer::Hooked(answer) => hook_fails(kind, answer),
-            Answer::Outcome(Outcome::Failed(_)) => true,
+            Answer::Outcome(outcome) => matches!(outcome.get(), Outcome::Failed(_)),
             Answer::Ready => matches!(kind, Kind::Wait(Role::Operation | Role::Attempt)),
             _ => false,
         }
@@ -119,5 +119,8 @@ fn hook_fails(kind: Kind, answer: &HookAnswer) -> bool
 fn writes_failure(written: &Option<Change>) -> bool
     ensures { result ≡ writes_failure written.now }
 {
-    matches!(written, Some(Change::Outcome(Outcome::Failed(_))))
+    match written {
+        Some(Change::Outcome(outcome)) => matches!(outcome.get(), Outcome::Failed(_)),
+        _ => false,
+    }
 }

@@ -21,7 +21,7 @@ pub enum Question {
         settings: Settings,
     },
     Load {
-        request: Option<HttpRequest>,
+        request: Option<Shared<HttpRequest>>,
     },
     Initial {
         settings: Settings,
@@ -39,40 +39,40 @@ pub enum Question {
     },
     Endpoint {
         settings: Settings,
-        identity: Option<Identity>,
+        identity: Option<Shared<Identity>>,
     },
     Apply {
         settings: Settings,
-        request: Option<HttpRequest>,
+        request: Option<Shared<HttpRequest>>,
         endpoint: Option<Shared<Endpoint>>,
     },
     Sign {
         settings: Settings,
-        request: Option<HttpRequest>,
+        request: Option<Shared<HttpRequest>>,
         scheme: Option<Text>,
-        identity: Option<Identity>,
+        identity: Option<Shared<Identity>>,
         endpoint: Option<Shared<Endpoint>>,
     },
     Transmit {
         settings: Settings,
-        request: Option<HttpRequest>,
+        request: Option<Shared<HttpRequest>>,
     },
     Stream {
         settings: Settings,
-        response: Option<HttpResponse>,
+        response: Option<Shared<HttpResponse>>,
     },
     Body {
         settings: Settings,
-        response: Option<HttpResponse>,
+        response: Option<Shared<HttpResponse>>,
     },
     Deserialize {
         settings: Settings,
-        response: Option<HttpResponse>,
+        response: Option<Shared<HttpResponse>>,
     },
     Decide {
         settings: Settings,
-        request: Option<HttpRequest>,
-        response: Option<HttpResponse>,
+        request: Option<Shared<HttpRequest>>,
+        response: Option<Shared<HttpResponse>>,
         outcome: Option<Outcome>,
         /// The number of the attempt, from 1.
         attempt: u64,

@@ -5,10 +5,8 @@ ghost use Rattle.run_grammar.specs.Standing.{starting, asks, on_request_way, on_
 
 use crate::Question;
 use crate::kind::{Kind, Role};
-use smithy_context::intercept::{copy_outcome, copy_request, copy_response};
 use smithy_context::{InterceptorContext, Setting, SettingKey, Settings};
 use smithy_types::{Endpoint, Identity, OutOfMemory, Payload, Shared, Text, TimeoutConfig};
-use std::alloc::AllocError;
 
 /// What stands in a run: the context that interceptors see, and what only the engine reads.
 #[derive(Drop)]
@@ -16,7 +14,7 @@ pub struct Standing {
     pub context: InterceptorContext,
     /// The id of the auth scheme.
     pub scheme: Option<Text>,
-    pub identity: Option<Identity>,
+    pub identity: Option<Shared<Identity>>,
     pub endpoint: Option<Shared<Endpoint>>,
     /// The last delay that a grant or a decision asked for, in nanoseconds.
     pub delay: Option<u64>,
@@ -77,11 +75,11 @@ impl Standing {
                 view: view.clone()?,
             }),
             Kind::Serialize => Ok(Question::Serialize {
-                input: copy_payload(&view.input)?,
+                input: view.input.clone()?,
                 settings: view.settings.clone()?,
             }),
             Kind::Load => Ok(Question::Load {
-                request: copy_request(&view.request)?,
+                request: view.request.clone()?,
             }),
             Kind::Start(role) => Ok(Question::Start {
                 role,
@@ -107,23 +105,23 @@ impl Standing {
         match kind {
             Kind::Endpoint => Ok(Question::Endpoint {
                 settings,
-                identity: copy_identity(&self.identity)?,
+                identity: self.identity.clone()?,
             }),
             Kind::Apply => Ok(Question::Apply {
                 settings,
-                request: copy_request(&view.request)?,
-                endpoint: copy_endpoint(&self.endpoint)?,
+                request: view.request.clone()?,
+                endpoint: self.endpoint.clone()?,
             }),
             Kind::Sign => Ok(Question::Sign {
                 settings,
-                request: copy_request(&view.request)?,
-                scheme: copy_text(&self.scheme)?,
-                identity: copy_identity(&self.identity)?,
-                endpoint: copy_endpoint(&self.endpoint)?,
+                request: view.request.clone()?,
+                scheme: self.scheme.clone()?,
+                identity: self.identity.clone()?,
+                endpoint: self.endpoint.clone()?,
             }),
             _ => Ok(Question::Transmit {
                 settings,
-                request: copy_request(&view.request)?,
+                request: view.request.clone()?,
             }),
         }
     }
@@ -140,21 +138,21 @@ impl Standing {
             Kind::Choose => Ok(Question::Choose { settings }),
             Kind::Stream => Ok(Question::Stream {
                 settings,
-                response: copy_response(&view.response)?,
+                response: view.response.clone()?,
             }),
             Kind::Body => Ok(Question::Body {
                 settings,
-                response: copy_response(&view.response)?,
+                response: view.response.clone()?,
             }),
             Kind::Deserialize => Ok(Question::Deserialize {
                 settings,
-                response: copy_response(&view.response)?,
+                response: view.response.clone()?,
             }),
             _ => Ok(Question::Decide {
                 settings,
-                request: copy_request(&view.request)?,
-                response: copy_response(&view.response)?,
-                outcome: copy_outcome(&view.outcome)?,
+                request: view.request.clone()?,
+                response: view.response.clone()?,
+                outcome: view.outcome.clone()?,
                 attempt: view.attempt,
             }),
         }
@@ -177,43 +175,5 @@ fn loads_body(settings: &Settings) -> bool
     match settings.load(&SettingKey::LoadBody) {
         Some(Setting::LoadBody(loads)) => *loads,
         _ => false,
-    }
-}
-
-fn copy_payload(payload: &Option<Payload>) -> Result<Option<Payload>, AllocError>
-    ensures { IfOk result (λ copy. copy ≡ payload.now) }
-{
-    match payload {
-        Some(payload) => Ok(Some(payload.clone()?)),
-        None => Ok(None),
-    }
-}
-
-fn copy_identity(identity: &Option<Identity>) -> Result<Option<Identity>, AllocError>
-    ensures { IfOk result (λ copy. copy ≡ identity.now) }
-{
-    match identity {
-        Some(identity) => Ok(Some(identity.clone()?)),
-        None => Ok(None),
-    }
-}
-
-pub(crate) fn copy_endpoint(
-    endpoint: &Option<Shared<Endpoint>>,
-) -> Result<Option<Shared<Endpoint>>, AllocError>
-    ensures { IfOk result (λ copy. copy ≡ endpoint.now) }
-{
-    match endpoint {
-        Some(endpoint) => Ok(Some(endpoint.clone()?)),
-        None => Ok(None),
-    }
-}
-
-pub(crate) fn copy_text(text: &Option<Text>) -> Result<Option<Text>, AllocError>
-    ensures { IfOk result (λ copy. copy ≡ text.now) }
-{
-    match text {
-        Some(text) => Ok(Some(text.clone()?)),
-        None => Ok(None),
     }
 }
