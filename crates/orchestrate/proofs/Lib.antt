@@ -8,3 +8,4 @@ pub mod Running
 pub mod Answering
 pub mod Completeness
 pub mod SpelledLaw
+pub mod QueueLemmas

@@ -1,12 +1,14 @@
 -- The default answers fit.
-use Rattle.std.proofs.Common.{Bool, true, ℕ, zero, suc, ◌+◌, ◌<◌, List, [], ◌∷◌, ◌++◌, length, drop, ◌≡◌, refl, ap, ◌∙◌, subst, arith, add-one}
+use Rattle.std.proofs.Common.{Bool, true, Some, List, [], ◌∷◌, ◌++◌, ◌≡◌, refl, sym, ap, ◌∙◌, subst}
+use Rattle.run_grammar.specs.declared.answer.Answer.{Answer}
+use Rattle.std.proofs.lemmas.Option.{same_Some}
 use Rattle.run_grammar.specs.declared.kind.Kind.{Kind}
 use Rattle.run_grammar.specs.declared.kind.Kind.TheVariants.{Configure, Hook, Serialize, Load, Initial, Start, Wait, Choose, Endpoint, Apply, Sign, Transmit, Stream, Body, Deserialize, Decide, Abandon, Park}
 use Rattle.run_grammar.specs.Fits.{fits}
 use Rattle.run_grammar.specs.declared.answer.Entry.{Entry}
 use Rattle.run_grammar.specs.Entry.{kind_of}
 use Rattle.orchestrate.specs.declared.script.ScriptAnswer.{ScriptAnswer}
-use Rattle.orchestrate.specs.Script.{default_for, left_by, Replies, Spelled}
+use Rattle.orchestrate.specs.Script.{default_for, next_of, left_by, Replies, RepliesBy, Spelled}
 
 pub default_fits : (k : Kind) → fits k (default_for k) ≡ true
 unfolding fits
@@ -36,11 +38,6 @@ spelled_more xs ys zs [] e taken f h r =
     (taken, subst (λ vs. Replies vs (kind_of e) e.answer taken) h r, f ∙ ap (λ vs. left_by taken vs) h)
 spelled_more xs ys zs (x ∷ l) e taken f (u, q, h) r = (u, q, spelled_more (left_by u xs) ys zs l e taken f h r)
 
-left_at : (n : ℕ) (xs : List ScriptAnswer) → n < length xs → drop (suc n) xs ≡ left_by true (drop n xs)
-left_at n [] h = absurd (omega arith)
-left_at zero (x ∷ xs) h = refl
-left_at (suc n) (x ∷ xs) h = left_at n xs (omega arith)
-
--- what is left once the next answer was taken
-pub left-drop : (n : ℕ) (xs : List ScriptAnswer) → n < length xs → drop (n + 1) xs ≡ left_by true (drop n xs)
-left-drop n xs h = rw add-one (left_at n xs h)
+-- the next answer is the one that is replied, where it is taken
+pub replied : (xs : List ScriptAnswer) (k : Kind) (x : ScriptAnswer) (a : Answer) → next_of xs ≡ Some x → RepliesBy (next_of xs) k a true → x.answer ≡ a
+replied xs k x a e (y, f, g, h) = ap (λ z. z.answer) (same_Some x y (sym e ∙ f)) ∙ sym h

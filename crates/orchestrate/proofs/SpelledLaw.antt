@@ -1,6 +1,7 @@
 -- A list of answers spells one run.
-use Rattle.std.proofs.Common.{Bool, ℕ, ◌≤◌, length, List, [], ◌∷◌, ◌++◌, ◌≡◌, ◌⊎◌, refl, sym, ap, ◌∙◌, subst, inl, inr, arith, append-nil, append_assoc, length-append}
+use Rattle.std.proofs.Common.{Bool, true, false, Option, ℕ, ◌≤◌, length, List, [], ◌∷◌, ◌++◌, ◌≡◌, ◌⊎◌, refl, sym, ap, ◌∙◌, subst, inl, inr, arith, append-nil, append_assoc, length-append}
 use Rattle.smithy_types.specs.declared.kinds.StopPoint.{StopPoint}
+use Rattle.std.proofs.lemmas.Option.{same_Some}
 use Rattle.run_grammar.specs.declared.kind.Kind.{Kind}
 use Rattle.run_grammar.specs.declared.answer.Answer.{Answer}
 use Rattle.run_grammar.specs.declared.answer.Entry.{Entry}
@@ -10,12 +11,15 @@ use Rattle.run_grammar.specs.Standing.{State}
 use Rattle.run_grammar.specs.Laws.{IsWhole, Begins}
 use Rattle.run_grammar.proofs.TheLaws.{no_prefix_law, one_question_law}
 use Rattle.orchestrate.specs.declared.script.ScriptAnswer.{ScriptAnswer}
-use Rattle.orchestrate.specs.Script.{Replies, Spelled, left_by}
+use Rattle.orchestrate.specs.Script.{Replies, RepliesBy, IsPassed, Spelled, next_of, left_by}
 use Rattle.orchestrate.specs.SpelledRuns.{IsRunWithin, OneSpelledRun}
 
-replies_once : (xs : List ScriptAnswer) (k : Kind) (a b : Answer) (t u : Bool) → Replies xs k a t → Replies xs k b u → (a ≡ b) × (t ≡ u)
-replies_once [] k a b t u (e, f) (g, h) = (e ∙ sym g, f ∙ sym h)
-replies_once (x ∷ xs) k a b t u (e, f) (g, h) = (f ∙ sym h, e ∙ sym g)
+-- what is replied, and whether an answer is taken, is fixed by the list and the kind
+replies_once : (next : Option ScriptAnswer) (k : Kind) (a b : Answer) (t u : Bool) → RepliesBy next k a t → RepliesBy next k b u → (a ≡ b) × (t ≡ u)
+replies_once next k a b true true (x, e, f, g) (y, h, i, j) = (g ∙ ap (λ z. z.answer) (same_Some x y (sym e ∙ h)) ∙ sym j, refl)
+replies_once next k a b true false (x, e, f, g) (p, j) = absurd (subst (IsPassed k) e p f)
+replies_once next k a b false true (p, g) (y, h, i, j) = absurd (subst (IsPassed k) h p i)
+replies_once next k a b false false (p, g) (q, j) = (g ∙ sym j, refl)
 
 same_entry : (e f : Entry) → e.question ≡ f.question → e.answer ≡ f.answer → e ≡ f
 same_entry e f p q = subst (λ x. e ≡ entry x f.answer) p (subst (λ a. e ≡ entry e.question a) q refl)
@@ -42,7 +46,7 @@ module _ (stop : StopPoint) (s : State) where
       let b1 = subst (Begins stop s) (sym (append_assoc k (e ∷ []) l)) b in
       let c1 = subst (Begins stop s) (sym (append_assoc k (f ∷ []) m)) c in
       let q = one_question_law stop s k e f (begins_front stop s (k ++ e ∷ []) l b1) (begins_front stop s (k ++ f ∷ []) m c1) in
-      let r = replies_once xs (kind_of e) e.answer f.answer t y u (subst (λ j. Replies xs j f.answer y) (ap kind_of_question (sym q)) w) in
+      let r = replies_once (next_of xs) (kind_of e) e.answer f.answer t y u (subst (λ j. Replies xs j f.answer y) (ap kind_of_question (sym q)) w) in
       let h = same_entry e f q r.0 in
       fronts_more e f l m h
       (fronts (k ++ e ∷ []) l m (left_by t xs) ys zs b1 (subst (λ z. Begins stop s ((k ++ z ∷ []) ++ m)) (sym h) c1) v (subst (λ z. Spelled (left_by z xs) m zs) (sym r.1) x))

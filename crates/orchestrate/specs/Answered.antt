@@ -16,6 +16,14 @@ use Rattle.orchestrate.specs.declared.execution.InvokeError.TheVariants.{Sdk, Un
 use Rattle.orchestrate.specs.Finish.{answer_of, failure_of}
 use Rattle.orchestrate.specs.Stands.{RunLost}
 
+-- what a context at a run's end answers: its output or its error, or there is no memory for a copy of its response
+abbrev pub Answers : InterceptorContext → Result Payload (InvokeError Payload) → Type 0
+Answers c (Ok output) = answer_of c ≡ Ok output
+Answers c (Err (Sdk error)) = answer_of c ≡ Err error
+Answers c (Err OutOfMemory) = Unit {0}
+Answers c (Err Unfinished) = ⊥
+Answers c (Err (WrongType payload)) = ⊥
+
 -- the log grew by a whole run of at most fuel calls, and so it is with the context at its end
 abbrev pub WholeRun : Payload → StopPoint → ℕ → List Entry → List Entry → (InterceptorContext → Type 0) → Type 0
 WholeRun p stop fuel before log ends =

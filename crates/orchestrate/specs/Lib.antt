@@ -7,7 +7,6 @@ pub mod Answered
 pub mod Growth
 pub mod Fresh
 pub mod Finish
-pub mod Same
 pub mod ScriptValue
 pub mod Script
 pub mod Handing

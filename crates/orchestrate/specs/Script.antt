@@ -1,5 +1,5 @@
 -- How a list of answers answers questions.
-use Rattle.std.specs.Prelude.{Bool, true, false, cond, ◌≡◌, None, List, [], ◌∷◌}
+use Rattle.std.specs.Prelude.{Bool, true, false, ◌≡◌, Option, None, Some, List, [], ◌∷◌}
 use Rattle.smithy_context.specs.declared.intercept.HookAnswer.{HookAnswer}
 use Rattle.run_grammar.specs.declared.kind.Kind.{Kind}
 use Rattle.run_grammar.specs.declared.kind.Kind.TheVariants as kinds
@@ -9,7 +9,6 @@ use Rattle.run_grammar.specs.declared.answer.Entry.{Entry}
 use Rattle.run_grammar.specs.Entry.{kind_of}
 use Rattle.run_grammar.specs.Fits.{fits}
 use Rattle.orchestrate.specs.declared.script.ScriptAnswer.{ScriptAnswer}
-use Rattle.orchestrate.specs.Same.{same_kind}
 
 -- the answer of a hook that does nothing
 abbrev pub done : HookAnswer
@@ -23,14 +22,27 @@ default_for (kinds.Abandon x) = answers.Abandoned
 default_for kinds.Park = answers.Parked
 default_for _ = answers.Absent
 
+abbrev pub next_of : List ScriptAnswer → Option ScriptAnswer
+next_of [] = None
+next_of (x ∷ xs) = Some x
+
 -- the answer is for a question of this kind, and fits it
-abbrev pub is_for : Kind → ScriptAnswer → Bool
-is_for k a = cond (same_kind a.kind k) (fits k a.answer) false
+abbrev pub IsFor : Kind → ScriptAnswer → Type 0
+IsFor k x = (x.kind ≡ k) × (fits k x.answer ≡ true)
+
+-- no answer, or one for another question, or one that doesn't fit
+abbrev pub IsPassed : Kind → Option ScriptAnswer → Type 0
+IsPassed k None = Unit {0}
+IsPassed k (Some x) = IsFor k x → ⊥
+
+-- the answer to a question of this kind, where this answer is the list's next one, and whether it is taken
+abbrev pub RepliesBy : Option ScriptAnswer → Kind → Answer → Bool → Type 0
+RepliesBy next k a true = (x : ScriptAnswer) × (next ≡ Some x) × IsFor k x × (a ≡ x.answer)
+RepliesBy next k a false = IsPassed k next × (a ≡ default_for k)
 
 -- the answer of the list to a question of this kind, and whether it is the list's next one
 abbrev pub Replies : List ScriptAnswer → Kind → Answer → Bool → Type 0
-Replies [] k a taken = (a ≡ default_for k) × (taken ≡ false)
-Replies (x ∷ xs) k a taken = (taken ≡ is_for k x) × (a ≡ cond (is_for k x) x.answer (default_for k))
+Replies xs k a taken = RepliesBy (next_of xs) k a taken
 
 abbrev pub left_by : Bool → List ScriptAnswer → List ScriptAnswer
 left_by true (x ∷ xs) = xs

@@ -49,10 +49,7 @@ pub fn invoke<W: World>(
     ensures related { HadMemory result → HandedOn W.relates world.old world.new (W.calls world.old) (W.calls world.new) }
 {
     match run(alloc, world, input, StopPoint::None, fuel)? {
-        Some(standing) => match outcome(standing.context) {
-            Ok(payload) => Ok(payload),
-            Err(error) => Err(InvokeError::Sdk(error)),
-        },
+        Some(standing) => outcome(standing.context),
         None => Err(InvokeError::Unfinished),
     }
 }
@@ -75,7 +72,7 @@ pub fn invoke_with_stop_point<W: World>(
         Some(standing) => {
             let context = standing.context;
             if context.is_failed() {
-                Err(InvokeError::Sdk(failure(context)))
+                Err(InvokeError::Sdk(failure(context)?))
             } else {
                 Ok(context)
             }

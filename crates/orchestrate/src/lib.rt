@@ -8,7 +8,6 @@ pub mod laws;
 pub mod operation;
 pub mod point;
 pub mod reply;
-pub mod same;
 pub mod script;
 pub mod stage;
 pub mod way;

@@ -1,9 +1,9 @@
 //! A world that answers from a list.
-ghost use Rattle.std.specs.Prelude.{◌≡◌, ◌<◌, [], length, drop, true, IsTrue, IfOk};
+ghost use Rattle.std.specs.Prelude.{◌≡◌, [], true, IsTrue, IfOk, option_copied};
 ghost use Rattle.run_grammar.specs.Fits.{fits};
-ghost use Rattle.orchestrate.specs.Script.{default_for, Replies};
+ghost use Rattle.run_grammar.specs.declared.answer.Answer.{Answer};
+ghost use Rattle.orchestrate.specs.Script.{default_for, next_of, left_by, RepliesBy};
 
-use crate::same::same_kind;
 use crate::world::World;
 use run_grammar::{Answer, Entry, Kind, Question};
 use smithy_context::HookAnswer;
@@ -18,34 +18,92 @@ pub struct ScriptAnswer {
     pub answer: Answer,
 }
 
+// Answers that are taken one by one. The vector has the last one first, so that the next one can
+// be moved out at its end.
+#[derive(Drop)]
+struct AnswerQueue {
+    last_first: Vec<ScriptAnswer>,
+}
+
+impl Model for AnswerQueue {
+    ghost use Rattle.std.specs.Prelude.{List};
+    ghost use Rattle.orchestrate.specs.declared.script.ScriptAnswer.{ScriptAnswer};
+    ghost use Rattle.orchestrate.specs.ScriptValue.{in_order};
+
+    ghost Value = { List ScriptAnswer };
+
+    ghost view = { λ q. in_order q.last_first };
+}
+
+impl AnswerQueue {
+    fn new(alloc: Global, answers: List<ScriptAnswer>) -> AnswerQueue
+        ensures { result ≡ answers }
+    {
+        let mut last_first = answers.into_vec(alloc);
+        last_first.as_mut_slice().reverse();
+        AnswerQueue { last_first }
+    }
+
+    // The next answer, which stays.
+    #[tactic(auto, using(crate::proofs::QueueLemmas::last_is_next))]
+    fn peek(&self) -> Option<&ScriptAnswer>
+        ensures { option_copied result ≡ next_of self.now }
+    {
+        self.last_first.as_slice().last()
+    }
+
+    // The next answer, which is moved out.
+    #[tactic(auto, using(crate::proofs::QueueLemmas::popped_next, crate::proofs::QueueLemmas::popped_rest))]
+    fn take(&mut self) -> Option<ScriptAnswer>
+        ensures next { result ≡ next_of self.old }
+        ensures rest { self.new ≡ left_by true self.old }
+    {
+        self.last_first.pop()
+    }
+
+    // The answer to a question of this kind: the next one, moved out, where it is taken.
+    #[tactic(auto, using(crate::proofs::ScriptLemmas::replied))]
+    fn answer(&mut self, kind: Kind, taken: bool) -> Answer
+        ensures answer { (a : Answer) → RepliesBy (next_of self.old) kind a taken → result ≡ a }
+        ensures rest { self.new ≡ left_by taken self.old }
+    {
+        if taken {
+            match self.take() {
+                Some(next) => next.answer,
+                None => default_for(kind),
+            }
+        } else {
+            default_for(kind)
+        }
+    }
+}
+
 /// A world that answers from a list, in its order. It takes the next answer of the list exactly
 /// where that is for a question of this kind and fits it. Every other question has an answer of
 /// its own: a hook does nothing, a sleep is over, what is given up is given up, a wait is over, and
 /// all else is absent.
 #[derive(Drop)]
 pub struct ScriptWorld {
-    answers: List<ScriptAnswer>,
-    next: usize,
+    answers: AnswerQueue,
     log: List<Entry>,
 }
 
 impl Model for ScriptWorld {
-    ghost use Rattle.orchestrate.specs.ScriptValue.{ScriptValue, scripted};
+    ghost use Rattle.orchestrate.specs.ScriptValue.{ScriptValue};
 
     ghost Value = { ScriptValue };
 
-    ghost view = { λ w. scripted w.answers w.next w.log };
+    ghost view = { λ w. record { answers = w.answers; log = w.log } };
 }
 
 impl ScriptWorld {
-    /// A world that was asked nothing.
-    pub fn new(_alloc: Global, answers: List<ScriptAnswer>) -> Result<ScriptWorld, OutOfMemory>
+    /// A world that was asked nothing. Its answers are moved, and not copied.
+    pub fn new(alloc: Global, answers: List<ScriptAnswer>) -> Result<ScriptWorld, OutOfMemory>
         ensures answers { IfOk result (λ w. w.answers ≡ answers) }
         ensures log { IfOk result (λ w. w.log ≡ []) }
     {
         Ok(ScriptWorld {
-            answers,
-            next: 0,
+            answers: AnswerQueue::new(alloc, answers),
             log: List::new(),
         })
     }
@@ -68,7 +126,7 @@ impl World for ScriptWorld {
 
     fn ask(&mut self, alloc: Global, question: Question) -> Result<Answer, OutOfMemory> {
         let kind = question.kind();
-        let (answer, noted, taken) = reply(self.answers.as_slice(), self.next, kind)?;
+        let (noted, taken) = reply(self.answers.peek(), kind)?;
         self.log.push(
             alloc,
             Entry {
@@ -76,33 +134,31 @@ impl World for ScriptWorld {
                 answer: noted,
             },
         )?;
-        if taken {
-            self.next += 1;
-        }
-        Ok(answer)
+        Ok(self.answers.answer(kind, taken))
     }
 
     ghost relates_nothing = { λ w. refl };
 }
 
-// The answer to a question of this kind, twice, and whether it is the next one of the list.
+// A copy of the answer to a question of this kind, and whether it is the next one of the list.
 #[tactic(auto, using(crate::proofs::ScriptLemmas::default_fits))]
-fn reply(
-    answers: &[ScriptAnswer],
-    next: usize,
-    kind: Kind,
-) -> Result<(Answer, Answer, bool), OutOfMemory>
-    ensures same { IfOk result (λ r. r.1 ≡ r.0) }
+fn reply(next: Option<&ScriptAnswer>, kind: Kind) -> Result<(Answer, bool), OutOfMemory>
     ensures fitting { IfOk result (λ r. fits kind r.0 ≡ true) }
-    ensures taken { IfOk result (λ r. IsTrue r.2 → next < length answers.now) }
-    ensures spelled { IfOk result (λ r. Replies (drop next answers.now) kind r.0 r.2) }
+    ensures replies { IfOk result (λ r. RepliesBy (option_copied next.entry) kind r.0 r.1) }
 {
-    if let Some(candidate) = answers.get(next) {
+    if let Some(candidate) = next {
         if same_kind(candidate.kind, kind) && candidate.answer.fits(kind) {
-            return Ok((candidate.answer.clone()?, candidate.answer.clone()?, true));
+            return Ok((candidate.answer.clone()?, true));
         }
     }
-    Ok((default_for(kind), default_for(kind), false))
+    Ok((default_for(kind), false))
+}
+
+fn same_kind(a: Kind, b: Kind) -> bool
+    ensures same { IsTrue result → a ≡ b }
+    ensures other { a ≡ b → IsTrue result }
+{
+    a == b
 }
 
 // What is answered where the list has no answer for the question.
