@@ -11,16 +11,16 @@ use Rattle.run_grammar.specs.declared.answer.Entry.{Entry}
 use Rattle.smithy_types.specs.declared.kinds.StopPoint.{StopPoint}
 use Rattle.orchestrate.specs.declared.stage.Armed.{Armed}
 use Rattle.orchestrate.specs.declared.point.Point.{Point}
-use Rattle.orchestrate.specs.declared.point.Point.TheVariants.{AtConfigureClient, AtHookClient, AtConfigureOperation, AtHookOperation, AtConfigureFinal, AtStartOperationFailed, AtStartOperation, AtModifyBeforeSerialization, AtReadBeforeSerialization, AtSerialize, AtLoad, AtReadAfterSerialization, AtModifyBeforeRetryLoop, AtInitial, AtStartSend, AtWaitSend, AtStartAttempt, AtReadBeforeAttempt, AtChoose, AtEndpoint, AtApply, AtModifyBeforeSigning, AtReadBeforeSigning, AtSign, AtReadAfterSigning, AtModifyBeforeTransmit, AtReadBeforeTransmit, AtTransmit, AtReadAfterTransmit, AtModifyBeforeDeserialization, AtReadBeforeDeserialization, AtStream, AtBody, AtDeserialize, AtReadAfterDeserialization, AtModifyBeforeAttemptCompletion, AtReadAfterAttempt, AtDecide, AtStartRetry, AtWaitRetry, AtCutModifyBeforeAttemptCompletion, AtCutReadAfterAttempt, AtModifyBeforeCompletion, AtReadAfterExecution}
+use Rattle.orchestrate.specs.declared.point.Point.TheVariants.{AtConfigureClient, AtHookClient, AtConfigureOperation, AtHookOperation, AtConfigureFinal, AtStartOperationFailed, AtStartOperation, AtModifyBeforeSerialization, AtReadBeforeSerialization, AtSerialize, AtLoad, AtReadAfterSerialization, AtModifyBeforeRetryLoop, AtInitial, AtStartSend, AtWaitSend, AtStartAttempt, AtReadBeforeAttempt, AtChoose, AtEndpoint, AtApply, AtModifyBeforeSigning, AtReadBeforeSigning, AtSign, AtReadAfterSigning, AtModifyBeforeTransmit, AtReadBeforeTransmit, AtTransmit, AtReadAfterTransmit, AtModifyBeforeDeserialization, AtReadBeforeDeserialization, AtStream, AtBody, AtDeserialize, AtReadAfterDeserialization, AtModifyBeforeAttemptCompletion, AtReadAfterAttempt, AtDecide, AtStartRetry, AtWaitRetry, AtStartLongPoll, AtWaitLongPoll, AtTokenInitial, AtTokenStartSend, AtTokenWaitSend, AtCutModifyBeforeAttemptCompletion, AtCutReadAfterAttempt, AtModifyBeforeCompletion, AtReadAfterExecution}
 use Rattle.run_grammar.specs.Entry.{kind_of}
 use Rattle.run_grammar.specs.Fits.{fits, fits_start}
 use Rattle.run_grammar.specs.Standing.{State, step}
-use Rattle.run_grammar.specs.Grammar.{started, went, is_start_of, answers_started, answers_go}
+use Rattle.run_grammar.specs.Tests.{started, went, went_on, is_start_of, answers_started, answers_go, answers_go_or_no}
 use Rattle.run_grammar.specs.Machine.{Rest, Left, Out, cut, after_cut}
 use Rattle.run_grammar.specs.Machine.{Waiting as Waits}
 use Rattle.orchestrate.specs.Points.{kind_at, left_at, scope_at, here, finishing_at, settling_at, placed}
 use Rattle.orchestrate.specs.Driving.{waiting_at, is_in_attempt, first_wait}
-use Rattle.orchestrate.proofs.Simulation.{Follows, follows_AtConfigureClient, follows_AtHookClient, follows_AtConfigureOperation, follows_AtHookOperation, follows_AtConfigureFinal, follows_AtStartOperationFailed, follows_AtStartOperation, follows_AtModifyBeforeSerialization, follows_AtReadBeforeSerialization, follows_AtSerialize, follows_AtLoad, follows_AtReadAfterSerialization, follows_AtModifyBeforeRetryLoop, follows_AtInitial, follows_AtStartSend, follows_AtWaitSend, follows_AtStartAttempt, follows_AtReadBeforeAttempt, follows_AtChoose, follows_AtEndpoint, follows_AtApply, follows_AtModifyBeforeSigning, follows_AtReadBeforeSigning, follows_AtSign, follows_AtReadAfterSigning, follows_AtModifyBeforeTransmit, follows_AtReadBeforeTransmit, follows_AtTransmit, follows_AtReadAfterTransmit, follows_AtModifyBeforeDeserialization, follows_AtReadBeforeDeserialization, follows_AtStream, follows_AtBody, follows_AtDeserialize, follows_AtReadAfterDeserialization, follows_AtModifyBeforeAttemptCompletion, follows_AtReadAfterAttempt, follows_AtDecide, follows_AtStartRetry, follows_AtWaitRetry, follows_AtCutModifyBeforeAttemptCompletion, follows_AtCutReadAfterAttempt, follows_AtModifyBeforeCompletion, follows_AtReadAfterExecution}
+use Rattle.orchestrate.proofs.Simulation.{Follows, follows_AtConfigureClient, follows_AtHookClient, follows_AtConfigureOperation, follows_AtHookOperation, follows_AtConfigureFinal, follows_AtStartOperationFailed, follows_AtStartOperation, follows_AtModifyBeforeSerialization, follows_AtReadBeforeSerialization, follows_AtSerialize, follows_AtLoad, follows_AtReadAfterSerialization, follows_AtModifyBeforeRetryLoop, follows_AtInitial, follows_AtStartSend, follows_AtWaitSend, follows_AtStartAttempt, follows_AtReadBeforeAttempt, follows_AtChoose, follows_AtEndpoint, follows_AtApply, follows_AtModifyBeforeSigning, follows_AtReadBeforeSigning, follows_AtSign, follows_AtReadAfterSigning, follows_AtModifyBeforeTransmit, follows_AtReadBeforeTransmit, follows_AtTransmit, follows_AtReadAfterTransmit, follows_AtModifyBeforeDeserialization, follows_AtReadBeforeDeserialization, follows_AtStream, follows_AtBody, follows_AtDeserialize, follows_AtReadAfterDeserialization, follows_AtModifyBeforeAttemptCompletion, follows_AtReadAfterAttempt, follows_AtDecide, follows_AtStartRetry, follows_AtWaitRetry, follows_AtStartLongPoll, follows_AtWaitLongPoll, follows_AtTokenInitial, follows_AtTokenStartSend, follows_AtTokenWaitSend, follows_AtCutModifyBeforeAttemptCompletion, follows_AtCutReadAfterAttempt, follows_AtModifyBeforeCompletion, follows_AtReadAfterExecution}
 use Rattle.run_grammar.proofs.Going.{IsLeft}
 
 -- the last entry is not of that kind
@@ -36,6 +36,15 @@ start_not_go _ h = absurd (cc)
 not_went : (s : State) (e : Entry) → kind_of e ≡ kinds.Start Send → fits (kind_of e) e.answer ≡ true → went (step s e) ≡ false
 unfolding went step fits
 not_went s e k h = start_not_go e.answer (subst (λ j. fits j e.answer ≡ true) k h)
+
+start_not_go_on : (a : Answer) → fits_start a ≡ true → answers_go_or_no a ≡ false
+start_not_go_on Started h = refl
+start_not_go_on Absent h = refl
+start_not_go_on _ h = absurd (cc)
+
+not_went_on : (s : State) (e : Entry) → kind_of e ≡ kinds.Start Send → fits (kind_of e) e.answer ≡ true → went_on (step s e) ≡ false
+unfolding went_on step fits
+not_went_on s e k h = start_not_go_on e.answer (subst (λ j. fits j e.answer ≡ true) k h)
 
 pub follows : (stop : StopPoint) (m : Armed) (p : Point) (s : State) (e : Entry) → kind_of e ≡ kind_at p → fits (kind_of e) e.answer ≡ true → Follows stop m p (step s e)
 follows stop m AtConfigureClient s e k h = follows_AtConfigureClient stop m (step s e)
@@ -78,6 +87,11 @@ follows stop m AtReadAfterAttempt s e k h = follows_AtReadAfterAttempt stop m (s
 follows stop m AtDecide s e k h = follows_AtDecide stop m (step s e) (not_started Attempt s e kinds.Decide refl k)
 follows stop m AtStartRetry s e k h = follows_AtStartRetry stop m (step s e)
 follows stop m AtWaitRetry s e k h = follows_AtWaitRetry stop m (step s e) (not_started Attempt s e (kinds.Wait Retry) refl k)
+follows stop m AtStartLongPoll s e k h = follows_AtStartLongPoll stop m (step s e)
+follows stop m AtWaitLongPoll s e k h = follows_AtWaitLongPoll stop m (step s e)
+follows stop m AtTokenInitial s e k h = follows_AtTokenInitial stop m (step s e) (not_started Attempt s e kinds.Initial refl k)
+follows stop m AtTokenStartSend s e k h = follows_AtTokenStartSend stop m (step s e) (not_went_on s e k h)
+follows stop m AtTokenWaitSend s e k h = follows_AtTokenWaitSend stop m (step s e)
 follows stop m AtCutModifyBeforeAttemptCompletion s e k h = follows_AtCutModifyBeforeAttemptCompletion stop m (step s e)
 follows stop m AtCutReadAfterAttempt s e k h = follows_AtCutReadAfterAttempt stop m (step s e)
 follows stop m AtModifyBeforeCompletion s e k h = follows_AtModifyBeforeCompletion stop m (step s e)
@@ -203,6 +217,21 @@ waits_AtStartRetry stop m = grind arith
 waits_AtWaitRetry : (stop : StopPoint) (m : Armed) → Waits (kind_at AtWaitRetry) (scope_at m AtWaitRetry) (scope_at m AtWaitRetry) (left_at stop m AtWaitRetry) ≡ waiting_at stop m AtWaitRetry (first_wait m AtWaitRetry)
 waits_AtWaitRetry stop m = grind arith
 
+waits_AtStartLongPoll : (stop : StopPoint) (m : Armed) → Waits (kind_at AtStartLongPoll) (scope_at m AtStartLongPoll) (scope_at m AtStartLongPoll) (left_at stop m AtStartLongPoll) ≡ waiting_at stop m AtStartLongPoll (first_wait m AtStartLongPoll)
+waits_AtStartLongPoll stop m = grind arith
+
+waits_AtWaitLongPoll : (stop : StopPoint) (m : Armed) → Waits (kind_at AtWaitLongPoll) (scope_at m AtWaitLongPoll) (scope_at m AtWaitLongPoll) (left_at stop m AtWaitLongPoll) ≡ waiting_at stop m AtWaitLongPoll (first_wait m AtWaitLongPoll)
+waits_AtWaitLongPoll stop m = grind arith
+
+waits_AtTokenInitial : (stop : StopPoint) (m : Armed) → Waits (kind_at AtTokenInitial) (scope_at m AtTokenInitial) (scope_at m AtTokenInitial) (left_at stop m AtTokenInitial) ≡ waiting_at stop m AtTokenInitial (first_wait m AtTokenInitial)
+waits_AtTokenInitial stop m = grind arith
+
+waits_AtTokenStartSend : (stop : StopPoint) (m : Armed) → Waits (kind_at AtTokenStartSend) (scope_at m AtTokenStartSend) (scope_at m AtTokenStartSend) (left_at stop m AtTokenStartSend) ≡ waiting_at stop m AtTokenStartSend (first_wait m AtTokenStartSend)
+waits_AtTokenStartSend stop m = grind arith
+
+waits_AtTokenWaitSend : (stop : StopPoint) (m : Armed) → Waits (kind_at AtTokenWaitSend) (scope_at m AtTokenWaitSend) (scope_at m AtTokenWaitSend) (left_at stop m AtTokenWaitSend) ≡ waiting_at stop m AtTokenWaitSend (first_wait m AtTokenWaitSend)
+waits_AtTokenWaitSend stop m = grind arith
+
 waits_AtCutModifyBeforeAttemptCompletion : (stop : StopPoint) (m : Armed) → Waits (kind_at AtCutModifyBeforeAttemptCompletion) (scope_at m AtCutModifyBeforeAttemptCompletion) (scope_at m AtCutModifyBeforeAttemptCompletion) (left_at stop m AtCutModifyBeforeAttemptCompletion) ≡ waiting_at stop m AtCutModifyBeforeAttemptCompletion (first_wait m AtCutModifyBeforeAttemptCompletion)
 waits_AtCutModifyBeforeAttemptCompletion stop m = grind arith
 
@@ -256,6 +285,11 @@ waits_first stop m AtReadAfterAttempt = waits_AtReadAfterAttempt stop m
 waits_first stop m AtDecide = waits_AtDecide stop m
 waits_first stop m AtStartRetry = waits_AtStartRetry stop m
 waits_first stop m AtWaitRetry = waits_AtWaitRetry stop m
+waits_first stop m AtStartLongPoll = waits_AtStartLongPoll stop m
+waits_first stop m AtWaitLongPoll = waits_AtWaitLongPoll stop m
+waits_first stop m AtTokenInitial = waits_AtTokenInitial stop m
+waits_first stop m AtTokenStartSend = waits_AtTokenStartSend stop m
+waits_first stop m AtTokenWaitSend = waits_AtTokenWaitSend stop m
 waits_first stop m AtCutModifyBeforeAttemptCompletion = waits_AtCutModifyBeforeAttemptCompletion stop m
 waits_first stop m AtCutReadAfterAttempt = waits_AtCutReadAfterAttempt stop m
 waits_first stop m AtModifyBeforeCompletion = waits_AtModifyBeforeCompletion stop m
@@ -389,6 +423,21 @@ cut_attempt_AtStartRetry stop m s h = grind arith
 cut_attempt_AtWaitRetry : (stop : StopPoint) (m : Armed) (s : State) → is_left (cut (left_at stop m AtWaitRetry) Attempt) ≡ true → after_cut (cut (left_at stop m AtWaitRetry) Attempt) s ≡ placed stop (settling_at m)
 cut_attempt_AtWaitRetry stop m s h = grind arith
 
+cut_attempt_AtStartLongPoll : (stop : StopPoint) (m : Armed) (s : State) → is_left (cut (left_at stop m AtStartLongPoll) Attempt) ≡ true → after_cut (cut (left_at stop m AtStartLongPoll) Attempt) s ≡ placed stop (settling_at m)
+cut_attempt_AtStartLongPoll stop m s h = grind arith
+
+cut_attempt_AtWaitLongPoll : (stop : StopPoint) (m : Armed) (s : State) → is_left (cut (left_at stop m AtWaitLongPoll) Attempt) ≡ true → after_cut (cut (left_at stop m AtWaitLongPoll) Attempt) s ≡ placed stop (settling_at m)
+cut_attempt_AtWaitLongPoll stop m s h = grind arith
+
+cut_attempt_AtTokenInitial : (stop : StopPoint) (m : Armed) (s : State) → is_left (cut (left_at stop m AtTokenInitial) Attempt) ≡ true → after_cut (cut (left_at stop m AtTokenInitial) Attempt) s ≡ placed stop (settling_at m)
+cut_attempt_AtTokenInitial stop m s h = grind arith
+
+cut_attempt_AtTokenStartSend : (stop : StopPoint) (m : Armed) (s : State) → is_left (cut (left_at stop m AtTokenStartSend) Attempt) ≡ true → after_cut (cut (left_at stop m AtTokenStartSend) Attempt) s ≡ placed stop (settling_at m)
+cut_attempt_AtTokenStartSend stop m s h = grind arith
+
+cut_attempt_AtTokenWaitSend : (stop : StopPoint) (m : Armed) (s : State) → is_left (cut (left_at stop m AtTokenWaitSend) Attempt) ≡ true → after_cut (cut (left_at stop m AtTokenWaitSend) Attempt) s ≡ placed stop (settling_at m)
+cut_attempt_AtTokenWaitSend stop m s h = grind arith
+
 cut_attempt_AtCutModifyBeforeAttemptCompletion : (stop : StopPoint) (m : Armed) (s : State) → is_left (cut (left_at stop m AtCutModifyBeforeAttemptCompletion) Attempt) ≡ true → after_cut (cut (left_at stop m AtCutModifyBeforeAttemptCompletion) Attempt) s ≡ placed stop (settling_at m)
 cut_attempt_AtCutModifyBeforeAttemptCompletion stop m s h = grind arith
 
@@ -442,6 +491,11 @@ cut_by_attempt stop m AtReadAfterAttempt s h = cut_attempt_AtReadAfterAttempt st
 cut_by_attempt stop m AtDecide s h = cut_attempt_AtDecide stop m s h
 cut_by_attempt stop m AtStartRetry s h = cut_attempt_AtStartRetry stop m s h
 cut_by_attempt stop m AtWaitRetry s h = cut_attempt_AtWaitRetry stop m s h
+cut_by_attempt stop m AtStartLongPoll s h = cut_attempt_AtStartLongPoll stop m s h
+cut_by_attempt stop m AtWaitLongPoll s h = cut_attempt_AtWaitLongPoll stop m s h
+cut_by_attempt stop m AtTokenInitial s h = cut_attempt_AtTokenInitial stop m s h
+cut_by_attempt stop m AtTokenStartSend s h = cut_attempt_AtTokenStartSend stop m s h
+cut_by_attempt stop m AtTokenWaitSend s h = cut_attempt_AtTokenWaitSend stop m s h
 cut_by_attempt stop m AtCutModifyBeforeAttemptCompletion s h = cut_attempt_AtCutModifyBeforeAttemptCompletion stop m s h
 cut_by_attempt stop m AtCutReadAfterAttempt s h = cut_attempt_AtCutReadAfterAttempt stop m s h
 cut_by_attempt stop m AtModifyBeforeCompletion s h = cut_attempt_AtModifyBeforeCompletion stop m s h
@@ -567,6 +621,21 @@ cut_operation_AtStartRetry stop m s h = grind arith
 cut_operation_AtWaitRetry : (stop : StopPoint) (m : Armed) (s : State) → is_left (cut (left_at stop m AtWaitRetry) Operation) ≡ true → after_cut (cut (left_at stop m AtWaitRetry) Operation) s ≡ placed stop (cond (is_in_attempt AtWaitRetry) (here m AtCutModifyBeforeAttemptCompletion) (finishing_at m))
 cut_operation_AtWaitRetry stop m s h = grind arith
 
+cut_operation_AtStartLongPoll : (stop : StopPoint) (m : Armed) (s : State) → is_left (cut (left_at stop m AtStartLongPoll) Operation) ≡ true → after_cut (cut (left_at stop m AtStartLongPoll) Operation) s ≡ placed stop (cond (is_in_attempt AtStartLongPoll) (here m AtCutModifyBeforeAttemptCompletion) (finishing_at m))
+cut_operation_AtStartLongPoll stop m s h = grind arith
+
+cut_operation_AtWaitLongPoll : (stop : StopPoint) (m : Armed) (s : State) → is_left (cut (left_at stop m AtWaitLongPoll) Operation) ≡ true → after_cut (cut (left_at stop m AtWaitLongPoll) Operation) s ≡ placed stop (cond (is_in_attempt AtWaitLongPoll) (here m AtCutModifyBeforeAttemptCompletion) (finishing_at m))
+cut_operation_AtWaitLongPoll stop m s h = grind arith
+
+cut_operation_AtTokenInitial : (stop : StopPoint) (m : Armed) (s : State) → is_left (cut (left_at stop m AtTokenInitial) Operation) ≡ true → after_cut (cut (left_at stop m AtTokenInitial) Operation) s ≡ placed stop (cond (is_in_attempt AtTokenInitial) (here m AtCutModifyBeforeAttemptCompletion) (finishing_at m))
+cut_operation_AtTokenInitial stop m s h = grind arith
+
+cut_operation_AtTokenStartSend : (stop : StopPoint) (m : Armed) (s : State) → is_left (cut (left_at stop m AtTokenStartSend) Operation) ≡ true → after_cut (cut (left_at stop m AtTokenStartSend) Operation) s ≡ placed stop (cond (is_in_attempt AtTokenStartSend) (here m AtCutModifyBeforeAttemptCompletion) (finishing_at m))
+cut_operation_AtTokenStartSend stop m s h = grind arith
+
+cut_operation_AtTokenWaitSend : (stop : StopPoint) (m : Armed) (s : State) → is_left (cut (left_at stop m AtTokenWaitSend) Operation) ≡ true → after_cut (cut (left_at stop m AtTokenWaitSend) Operation) s ≡ placed stop (cond (is_in_attempt AtTokenWaitSend) (here m AtCutModifyBeforeAttemptCompletion) (finishing_at m))
+cut_operation_AtTokenWaitSend stop m s h = grind arith
+
 cut_operation_AtCutModifyBeforeAttemptCompletion : (stop : StopPoint) (m : Armed) (s : State) → is_left (cut (left_at stop m AtCutModifyBeforeAttemptCompletion) Operation) ≡ true → after_cut (cut (left_at stop m AtCutModifyBeforeAttemptCompletion) Operation) s ≡ placed stop (cond (is_in_attempt AtCutModifyBeforeAttemptCompletion) (here m AtCutModifyBeforeAttemptCompletion) (finishing_at m))
 cut_operation_AtCutModifyBeforeAttemptCompletion stop m s h = grind arith
 
@@ -621,6 +690,11 @@ cut_by_operation stop m AtReadAfterAttempt s h = cut_operation_AtReadAfterAttemp
 cut_by_operation stop m AtDecide s h = cut_operation_AtDecide stop m s h
 cut_by_operation stop m AtStartRetry s h = cut_operation_AtStartRetry stop m s h
 cut_by_operation stop m AtWaitRetry s h = cut_operation_AtWaitRetry stop m s h
+cut_by_operation stop m AtStartLongPoll s h = cut_operation_AtStartLongPoll stop m s h
+cut_by_operation stop m AtWaitLongPoll s h = cut_operation_AtWaitLongPoll stop m s h
+cut_by_operation stop m AtTokenInitial s h = cut_operation_AtTokenInitial stop m s h
+cut_by_operation stop m AtTokenStartSend s h = cut_operation_AtTokenStartSend stop m s h
+cut_by_operation stop m AtTokenWaitSend s h = cut_operation_AtTokenWaitSend stop m s h
 cut_by_operation stop m AtCutModifyBeforeAttemptCompletion s h = cut_operation_AtCutModifyBeforeAttemptCompletion stop m s h
 cut_by_operation stop m AtCutReadAfterAttempt s h = cut_operation_AtCutReadAfterAttempt stop m s h
 cut_by_operation stop m AtModifyBeforeCompletion s h = cut_operation_AtModifyBeforeCompletion stop m s h

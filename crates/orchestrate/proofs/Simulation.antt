@@ -3,10 +3,10 @@ use Rattle.std.proofs.Common.{false, ◌≡◌, arith}
 use Rattle.orchestrate.specs.declared.point.Point.{Point}
 use Rattle.smithy_types.specs.declared.kinds.StopPoint.{StopPoint}
 use Rattle.orchestrate.specs.declared.stage.Armed.{Armed}
-use Rattle.orchestrate.specs.declared.point.Point.TheVariants.{AtApply, AtBody, AtChoose, AtConfigureClient, AtConfigureFinal, AtConfigureOperation, AtCutModifyBeforeAttemptCompletion, AtCutReadAfterAttempt, AtDecide, AtDeserialize, AtEndpoint, AtHookClient, AtHookOperation, AtInitial, AtLoad, AtModifyBeforeAttemptCompletion, AtModifyBeforeCompletion, AtModifyBeforeDeserialization, AtModifyBeforeRetryLoop, AtModifyBeforeSerialization, AtModifyBeforeSigning, AtModifyBeforeTransmit, AtReadAfterAttempt, AtReadAfterDeserialization, AtReadAfterExecution, AtReadAfterSerialization, AtReadAfterSigning, AtReadAfterTransmit, AtReadBeforeAttempt, AtReadBeforeDeserialization, AtReadBeforeSerialization, AtReadBeforeSigning, AtReadBeforeTransmit, AtSerialize, AtSign, AtStartAttempt, AtStartOperation, AtStartOperationFailed, AtStartRetry, AtStartSend, AtStream, AtTransmit, AtWaitRetry, AtWaitSend}
+use Rattle.orchestrate.specs.declared.point.Point.TheVariants.{AtApply, AtBody, AtChoose, AtConfigureClient, AtConfigureFinal, AtConfigureOperation, AtCutModifyBeforeAttemptCompletion, AtCutReadAfterAttempt, AtDecide, AtDeserialize, AtEndpoint, AtHookClient, AtHookOperation, AtInitial, AtLoad, AtModifyBeforeAttemptCompletion, AtModifyBeforeCompletion, AtModifyBeforeDeserialization, AtModifyBeforeRetryLoop, AtModifyBeforeSerialization, AtModifyBeforeSigning, AtModifyBeforeTransmit, AtReadAfterAttempt, AtReadAfterDeserialization, AtReadAfterExecution, AtReadAfterSerialization, AtReadAfterSigning, AtReadAfterTransmit, AtReadBeforeAttempt, AtReadBeforeDeserialization, AtReadBeforeSerialization, AtReadBeforeSigning, AtReadBeforeTransmit, AtSerialize, AtSign, AtStartAttempt, AtStartLongPoll, AtStartOperation, AtStartOperationFailed, AtStartRetry, AtStartSend, AtStream, AtTokenInitial, AtTokenStartSend, AtTokenWaitSend, AtTransmit, AtWaitLongPoll, AtWaitRetry, AtWaitSend}
 use Rattle.run_grammar.specs.declared.kind.Role.TheVariants.{Attempt, Operation}
 use Rattle.run_grammar.specs.Standing.{State}
-use Rattle.run_grammar.specs.Grammar.{started, went}
+use Rattle.run_grammar.specs.Tests.{started, went, went_on}
 use Rattle.orchestrate.specs.Points.{next_point, placed, left_at}
 use Rattle.run_grammar.specs.Machine.{begin}
 
@@ -144,3 +144,18 @@ follows_AtModifyBeforeCompletion stop m s = grind arith
 
 pub follows_AtReadAfterExecution : (stop : StopPoint) (m : Armed) (s : State) → Follows stop m AtReadAfterExecution s
 follows_AtReadAfterExecution stop m s = grind arith
+
+pub follows_AtStartLongPoll : (stop : StopPoint) (m : Armed) (s : State) → Follows stop m AtStartLongPoll s
+follows_AtStartLongPoll stop m s = grind arith
+
+pub follows_AtWaitLongPoll : (stop : StopPoint) (m : Armed) (s : State) → Follows stop m AtWaitLongPoll s
+follows_AtWaitLongPoll stop m s = grind arith
+
+pub follows_AtTokenInitial : (stop : StopPoint) (m : Armed) (s : State) → started Attempt s ≡ false → Follows stop m AtTokenInitial s
+follows_AtTokenInitial stop m s h = grind arith
+
+pub follows_AtTokenStartSend : (stop : StopPoint) (m : Armed) (s : State) → went_on s ≡ false → Follows stop m AtTokenStartSend s
+follows_AtTokenStartSend stop m s h = grind arith
+
+pub follows_AtTokenWaitSend : (stop : StopPoint) (m : Armed) (s : State) → Follows stop m AtTokenWaitSend s
+follows_AtTokenWaitSend stop m s = grind arith

@@ -12,7 +12,7 @@ use Rattle.run_grammar.specs.Entry.{entry, kind_of, pending, fails, same_role}
 use Rattle.run_grammar.specs.Fits.{fits}
 use Rattle.run_grammar.specs.Change.{changed}
 use Rattle.run_grammar.specs.Standing.{State, asks}
-use Rattle.run_grammar.specs.Grammar.{answers_started, is_start_of, failed, delayed, went, started, not_streaming, body_read, decided_yes, decided_delay}
+use Rattle.run_grammar.specs.Tests.{answers_started, is_start_of, failed, delayed, went, went_on, started, not_streaming, body_read, decided_yes, decided_no_after, decided_delay}
 use Rattle.orchestrate.specs.declared.point.Point.{Point}
 use Rattle.orchestrate.specs.declared.stage.Stage.{Stage}
 use Rattle.orchestrate.specs.declared.reply.Reply.{Reply}
@@ -52,25 +52,27 @@ started_tells kinds.Park a r = refl
 abbrev after_entry : Standing → Entry → State
 after_entry c e = record { context = c; last = Some e }
 
-tells_itself : (c : Standing) (e : Entry) → Tells (after_entry c e) (reply_of (kind_of e) e.answer)
-unfolding failed delayed went started not_streaming body_read decided_yes decided_delay fails
+tells_itself : (c : Standing) (e : Entry) → Tells (after_entry c e) (reply_of (kind_of e) c.context.view.attempt e.answer)
+unfolding failed delayed went went_on started not_streaming body_read decided_yes decided_no_after decided_delay fails
 tells_itself c e = record {
   failing = refl;
   delaying = refl;
   going = refl;
+  going_on = refl;
   starting = λ r. started_tells (kind_of e) e.answer r;
   streaming = refl;
   reading = refl;
   repeating = refl;
+  pausing = refl;
   repeating_later = refl;
 }
 
-pending_itself : (e : Entry) → pending e ≡ (reply_of (kind_of e) e.answer).pending
+pending_itself : (n : ℕ) (e : Entry) → pending e ≡ (reply_of (kind_of e) n e.answer).pending
 unfolding pending
-pending_itself e = refl
+pending_itself n e = refl
 
 pub asked_step : (v : Invocation) (p : Point) (k : Kind) (q : Question) (n : Option ℕ) (a : Answer) (c : Standing) (r : Reply) (g : Stage) →
-    k ≡ asks_at p v.stage.waiting → q ≡ asks k v.standing → n ≡ nanos_of q → r ≡ reply_of k a → c ≡ changed k n a v.standing →
+    k ≡ asks_at p v.stage.waiting → q ≡ asks k v.standing → n ≡ nanos_of q → r ≡ reply_of k c.context.view.attempt a → c ≡ changed k n a v.standing →
     ((s : State) (e : Entry) → s.context ≡ c → Tells s r → pending e ≡ r.pending → g ≡ moved_at v.stop v.stage.place.armed p v.stage.waiting s e) →
     (let x : Invocation = record { stop = v.stop; standing = c; stage = g; lost = v.lost } in x) ≡ record (driven v p a) { lost = v.lost }
 asked_step v p k q n a c r g hk hq hn hr hc hg =
@@ -78,8 +80,9 @@ asked_step v p k q n a c r g hk hq hn hr hc hg =
     let is : kind_of e ≡ k = asks_kind (asks_at p v.stage.waiting) v.standing ∙ sym hk in
     let handed : q ≡ e.question = hq ∙ ap (λ j. asks j v.standing) hk in
     let after : c ≡ stood v e = hc ∙ ap (λ m. changed k m a v.standing) (hn ∙ ap nanos_of handed) ∙ ap (λ j. changed j (nanos_of e.question) a v.standing) (sym is) in
-    let told : reply_of (kind_of e) e.answer ≡ r = ap (λ j. reply_of j a) is ∙ sym hr in
-    let moved = hg (after_entry (stood v e) e) e (sym after) (subst (λ t. Tells (after_entry (stood v e) e) t) told (tells_itself (stood v e) e)) (pending_itself e ∙ ap (λ t. t.pending) told) in
+    let number = (stood v e).context.view.attempt in
+    let told : reply_of (kind_of e) number e.answer ≡ r = ap (λ j. reply_of j number a) is ∙ ap (λ (d : Standing). reply_of k d.context.view.attempt a) (sym after) ∙ sym hr in
+    let moved = hg (after_entry (stood v e) e) e (sym after) (subst (λ t. Tells (after_entry (stood v e) e) t) told (tells_itself (stood v e) e)) (pending_itself number e ∙ ap (λ t. t.pending) told) in
     ap (λ (d : Standing). let x : Invocation = record { stop = v.stop; standing = d; stage = g; lost = v.lost } in x) after
     ∙ ap (λ (h : Stage). let x : Invocation = record { stop = v.stop; standing = stood v e; stage = h; lost = v.lost } in x) moved
 

@@ -1,4 +1,5 @@
 -- Where the code of a run may stand, and the position that this is.
+use Rattle.run_grammar.specs.declared.production.Test.TheVariants as tests
 use Rattle.std.specs.Prelude.{false, Option, None, Some, cond, List, [], ◌∷◌}
 use Rattle.run_grammar.specs.declared.kind.Role.{Role}
 use Rattle.run_grammar.specs.declared.kind.Kind.{Kind}
@@ -8,12 +9,13 @@ use Rattle.orchestrate.specs.declared.stage.Armed.{Armed}
 use Rattle.orchestrate.specs.declared.stage.Place.{Place}
 use Rattle.smithy_types.specs.declared.hook.Hook.TheVariants.{ModifyBeforeAttemptCompletion, ModifyBeforeCompletion, ModifyBeforeDeserialization, ModifyBeforeRetryLoop, ModifyBeforeSerialization, ModifyBeforeSigning, ModifyBeforeTransmit, ReadAfterAttempt, ReadAfterDeserialization, ReadAfterExecution, ReadAfterSerialization, ReadAfterSigning, ReadAfterTransmit, ReadBeforeAttempt, ReadBeforeDeserialization, ReadBeforeExecutionClient, ReadBeforeExecutionOperation, ReadBeforeSerialization, ReadBeforeSigning, ReadBeforeTransmit}
 use Rattle.run_grammar.specs.declared.kind.Kind.TheVariants as kinds
-use Rattle.orchestrate.specs.declared.point.Point.TheVariants.{AtApply, AtBody, AtChoose, AtConfigureClient, AtConfigureFinal, AtConfigureOperation, AtCutModifyBeforeAttemptCompletion, AtCutReadAfterAttempt, AtDecide, AtDeserialize, AtEndpoint, AtHookClient, AtHookOperation, AtInitial, AtLoad, AtModifyBeforeAttemptCompletion, AtModifyBeforeCompletion, AtModifyBeforeDeserialization, AtModifyBeforeRetryLoop, AtModifyBeforeSerialization, AtModifyBeforeSigning, AtModifyBeforeTransmit, AtReadAfterAttempt, AtReadAfterDeserialization, AtReadAfterExecution, AtReadAfterSerialization, AtReadAfterSigning, AtReadAfterTransmit, AtReadBeforeAttempt, AtReadBeforeDeserialization, AtReadBeforeSerialization, AtReadBeforeSigning, AtReadBeforeTransmit, AtSerialize, AtSign, AtStartAttempt, AtStartOperation, AtStartOperationFailed, AtStartRetry, AtStartSend, AtStream, AtTransmit, AtWaitRetry, AtWaitSend}
-use Rattle.run_grammar.specs.declared.kind.Role.TheVariants.{Attempt, Operation, Retry, Send}
+use Rattle.orchestrate.specs.declared.point.Point.TheVariants.{AtApply, AtBody, AtChoose, AtConfigureClient, AtConfigureFinal, AtConfigureOperation, AtCutModifyBeforeAttemptCompletion, AtCutReadAfterAttempt, AtDecide, AtDeserialize, AtEndpoint, AtHookClient, AtHookOperation, AtInitial, AtLoad, AtModifyBeforeAttemptCompletion, AtModifyBeforeCompletion, AtModifyBeforeDeserialization, AtModifyBeforeRetryLoop, AtModifyBeforeSerialization, AtModifyBeforeSigning, AtModifyBeforeTransmit, AtReadAfterAttempt, AtReadAfterDeserialization, AtReadAfterExecution, AtReadAfterSerialization, AtReadAfterSigning, AtReadAfterTransmit, AtReadBeforeAttempt, AtReadBeforeDeserialization, AtReadBeforeSerialization, AtReadBeforeSigning, AtReadBeforeTransmit, AtSerialize, AtSign, AtStartAttempt, AtStartLongPoll, AtStartOperation, AtStartOperationFailed, AtStartRetry, AtStartSend, AtStream, AtTokenInitial, AtTokenStartSend, AtTokenWaitSend, AtTransmit, AtWaitLongPoll, AtWaitRetry, AtWaitSend}
+use Rattle.run_grammar.specs.declared.kind.Role.TheVariants.{Attempt, LongPoll, Operation, Retry, Send}
 use Rattle.run_grammar.specs.declared.kind.ConfigureStage.TheVariants as stages
 use Rattle.smithy_types.specs.declared.kinds.StopPoint.TheVariants as stops
 use Rattle.run_grammar.specs.Standing.{State}
-use Rattle.run_grammar.specs.Grammar.{hook, halted, arm, armed, sending, streaming, attempt, settle, round, loop, grant_round, grant, op, finish, failed, delayed, went, started, not_streaming, body_read, decided_yes, decided_delay, endpoint_stands, load_body, checkpoint_stands, failure_stands, timeout_stands}
+use Rattle.run_grammar.specs.Grammar.{hook, halted, arm, armed, sending, streaming, attempt, settle, again, round, loop, grant_round, grant, op, finish}
+use Rattle.run_grammar.specs.Tests.{failed, delayed, went, went_on, started, not_streaming, body_read, decided_yes, decided_no_after, decided_delay, endpoint_stands, load_body, checkpoint_stands, failure_stands, timeout_stands, token_needed}
 use Rattle.run_grammar.specs.Production.{Production, Nothing, Work, ◌⨟◌, Where, Rounds, Again, InAttempt, Under}
 use Rattle.run_grammar.specs.Machine.{Position, Whole, Asking}
 
@@ -59,6 +61,11 @@ kind_at AtReadAfterAttempt = kinds.Hook ReadAfterAttempt
 kind_at AtDecide = kinds.Decide
 kind_at AtStartRetry = kinds.Start Retry
 kind_at AtWaitRetry = kinds.Wait Retry
+kind_at AtStartLongPoll = kinds.Start LongPoll
+kind_at AtWaitLongPoll = kinds.Wait LongPoll
+kind_at AtTokenInitial = kinds.Initial
+kind_at AtTokenStartSend = kinds.Start Send
+kind_at AtTokenWaitSend = kinds.Wait Send
 kind_at AtCutModifyBeforeAttemptCompletion = kinds.Hook ModifyBeforeAttemptCompletion
 kind_at AtCutReadAfterAttempt = kinds.Hook ReadAfterAttempt
 kind_at AtModifyBeforeCompletion = kinds.Hook ModifyBeforeCompletion
@@ -75,23 +82,27 @@ abbrev pub in_attempt : Armed → Production → Production
 in_attempt m r = cond m.attempt (Under Attempt (InAttempt r) Nothing) (InAttempt r)
 
 abbrev pub after_front : StopPoint → Production
-after_front stop = Where failed Nothing (grant ⨟ Where went (loop stop) Nothing)
+after_front stop = Where tests.Failed Nothing (grant ⨟ Where tests.Went (loop stop) Nothing)
 
 abbrev pub in_front : StopPoint → Armed → Production → Production
 in_front stop m r = in_operation m (r ⨟ after_front stop)
 
 abbrev pub in_grant : StopPoint → Armed → Production → Production
-in_grant stop m r = in_operation m (Rounds r grant_round ⨟ Where went (loop stop) Nothing)
+in_grant stop m r = in_operation m (Rounds r grant_round ⨟ Where tests.Went (loop stop) Nothing)
 
 abbrev pub after_turn : Production
 after_turn =
-    Where decided_yes (Where checkpoint_stands Again Nothing)
-    (Where decided_delay
-    (Work (kinds.Start Retry) ⨟ Where (started Retry) (Where checkpoint_stands (Work (kinds.Wait Retry) ⨟ Again) Nothing) Nothing)
-    Nothing)
+    Where tests.DecidedYes (Where tests.CheckpointStands again Nothing)
+    (Where tests.DecidedNoAfter (Work (kinds.Start LongPoll) ⨟ Where (tests.HasStarted LongPoll) (Work (kinds.Wait LongPoll)) Nothing)
+    (Where tests.DecidedDelay
+    (Work (kinds.Start Retry) ⨟ Where (tests.HasStarted Retry) (Where tests.CheckpointStands (Work (kinds.Wait Retry) ⨟ again) Nothing) Nothing)
+    Nothing))
 
 abbrev pub in_round : StopPoint → Armed → Production → Production
 in_round stop m r = in_operation m (Rounds r (round stop))
+
+abbrev pub in_token : StopPoint → Armed → Production → Production
+in_token stop m r = in_round stop m (Rounds r grant_round ⨟ Where tests.WentOn Again Nothing)
 
 abbrev pub in_turn : StopPoint → Armed → Production → Production
 in_turn stop m r = in_round stop m (r ⨟ after_turn)
@@ -100,7 +111,7 @@ abbrev pub in_try : StopPoint → Armed → Production → Production
 in_try stop m r = in_turn stop m (in_attempt m r ⨟ settle ⨟ Work kinds.Decide)
 
 abbrev pub after_opening : StopPoint → Production → Production
-after_opening stops.None r = r ⨟ Where failed Nothing (halted (sending ∷ streaming ∷ []))
+after_opening stops.None r = r ⨟ Where tests.Failed Nothing (halted (sending ∷ streaming ∷ []))
 after_opening stops.BeforeTransmit r = r
 
 abbrev pub in_opening : StopPoint → Armed → Production → Production
@@ -109,44 +120,44 @@ in_opening stop m r = in_try stop m (after_opening stop r)
 -- after a step of a halted word: the rest of it, where the step did not fail
 abbrev pub and_then : List Production → Production
 and_then [] = Nothing
-and_then (p ∷ ps) = Nothing ⨟ Where failed Nothing (halted (p ∷ ps))
+and_then (p ∷ ps) = Nothing ⨟ Where tests.Failed Nothing (halted (p ∷ ps))
 
 abbrev pub in_sending : StopPoint → Armed → Production → Production
-in_sending stop m r = in_try stop m (r ⨟ Where failed Nothing streaming)
+in_sending stop m r = in_try stop m (r ⨟ Where tests.Failed Nothing streaming)
 
 abbrev pub configuring : Production → Production
-configuring p = Nothing ⨟ Where failed Nothing p
+configuring p = Nothing ⨟ Where tests.Failed Nothing p
 
 abbrev pub after_config : StopPoint → Production
-after_config stop = Where failure_stands (arm Operation ⨟ finish) (armed Operation (op stop) settle ⨟ finish)
+after_config stop = Where tests.FailureStands (arm Operation ⨟ finish) (armed Operation (op stop) settle ⨟ finish)
 
 abbrev pub hooked_third : StopPoint → Production
-hooked_third stop = hook ReadBeforeExecutionOperation ⨟ Work (kinds.Configure stages.Final) ⨟ Where failed Nothing (after_config stop)
+hooked_third stop = hook ReadBeforeExecutionOperation ⨟ Work (kinds.Configure stages.Final) ⨟ Where tests.Failed Nothing (after_config stop)
 
 abbrev pub hooked_second : StopPoint → Production
-hooked_second stop = hook ReadBeforeExecutionClient ⨟ Work (kinds.Configure stages.Operation) ⨟ Where failed Nothing (hooked_third stop)
+hooked_second stop = hook ReadBeforeExecutionClient ⨟ Work (kinds.Configure stages.Operation) ⨟ Where tests.Failed Nothing (hooked_third stop)
 
 -- what is left after the question at the point
 abbrev pub left_at : StopPoint → Armed → Point → Production
 left_at stop m AtConfigureClient = configuring (hooked_second stop)
-left_at stop m AtHookClient = Nothing ⨟ Work (kinds.Configure stages.Operation) ⨟ Where failed Nothing (hooked_third stop)
+left_at stop m AtHookClient = Nothing ⨟ Work (kinds.Configure stages.Operation) ⨟ Where tests.Failed Nothing (hooked_third stop)
 left_at stop m AtConfigureOperation = configuring (hooked_third stop)
-left_at stop m AtHookOperation = Nothing ⨟ Work (kinds.Configure stages.Final) ⨟ Where failed Nothing (after_config stop)
+left_at stop m AtHookOperation = Nothing ⨟ Work (kinds.Configure stages.Final) ⨟ Where tests.Failed Nothing (after_config stop)
 left_at stop m AtConfigureFinal = configuring (after_config stop)
 left_at stop m AtStartOperationFailed = Nothing ⨟ finish
-left_at stop m AtStartOperation = (Nothing ⨟ Where (started Operation) (Under Operation (op stop) settle) (op stop)) ⨟ finish
-left_at stop m AtModifyBeforeSerialization = in_front stop m (and_then (hook ReadBeforeSerialization ∷ Work kinds.Serialize ∷ Where load_body (Work kinds.Load) Nothing ∷ hook ReadAfterSerialization ∷ hook ModifyBeforeRetryLoop ∷ []))
-left_at stop m AtReadBeforeSerialization = in_front stop m (and_then (Work kinds.Serialize ∷ Where load_body (Work kinds.Load) Nothing ∷ hook ReadAfterSerialization ∷ hook ModifyBeforeRetryLoop ∷ []))
-left_at stop m AtSerialize = in_front stop m (and_then (Where load_body (Work kinds.Load) Nothing ∷ hook ReadAfterSerialization ∷ hook ModifyBeforeRetryLoop ∷ []))
+left_at stop m AtStartOperation = (Nothing ⨟ Where (tests.HasStarted Operation) (Under Operation (op stop) settle) (op stop)) ⨟ finish
+left_at stop m AtModifyBeforeSerialization = in_front stop m (and_then (hook ReadBeforeSerialization ∷ Work kinds.Serialize ∷ Where tests.LoadBody (Work kinds.Load) Nothing ∷ hook ReadAfterSerialization ∷ hook ModifyBeforeRetryLoop ∷ []))
+left_at stop m AtReadBeforeSerialization = in_front stop m (and_then (Work kinds.Serialize ∷ Where tests.LoadBody (Work kinds.Load) Nothing ∷ hook ReadAfterSerialization ∷ hook ModifyBeforeRetryLoop ∷ []))
+left_at stop m AtSerialize = in_front stop m (and_then (Where tests.LoadBody (Work kinds.Load) Nothing ∷ hook ReadAfterSerialization ∷ hook ModifyBeforeRetryLoop ∷ []))
 left_at stop m AtLoad = in_front stop m (and_then (hook ReadAfterSerialization ∷ hook ModifyBeforeRetryLoop ∷ []))
 left_at stop m AtReadAfterSerialization = in_front stop m (and_then (hook ModifyBeforeRetryLoop ∷ []))
 left_at stop m AtModifyBeforeRetryLoop = in_front stop m Nothing
-left_at stop m AtInitial = in_grant stop m (Nothing ⨟ Where delayed (Work (kinds.Start Send) ⨟ Where (started Send) (Work (kinds.Wait Send) ⨟ Again) Nothing) Nothing)
-left_at stop m AtStartSend = in_grant stop m (Nothing ⨟ Where (started Send) (Work (kinds.Wait Send) ⨟ Again) Nothing)
+left_at stop m AtInitial = in_grant stop m (Nothing ⨟ Where tests.Delayed (Work (kinds.Start Send) ⨟ Where (tests.HasStarted Send) (Work (kinds.Wait Send) ⨟ Again) Nothing) Nothing)
+left_at stop m AtStartSend = in_grant stop m (Nothing ⨟ Where (tests.HasStarted Send) (Work (kinds.Wait Send) ⨟ Again) Nothing)
 left_at stop m AtWaitSend = in_grant stop m (Nothing ⨟ Again)
-left_at stop m AtStartAttempt = in_turn stop m ((Nothing ⨟ Where (started Attempt) (Under Attempt (InAttempt (attempt stop)) Nothing) (InAttempt (attempt stop))) ⨟ settle ⨟ Work kinds.Decide)
-left_at stop m AtReadBeforeAttempt = in_opening stop m (and_then (Work kinds.Choose ∷ Where endpoint_stands Nothing (Work kinds.Endpoint) ∷ Work kinds.Apply ∷ hook ModifyBeforeSigning ∷ hook ReadBeforeSigning ∷ Work kinds.Sign ∷ hook ReadAfterSigning ∷ hook ModifyBeforeTransmit ∷ hook ReadBeforeTransmit ∷ []))
-left_at stop m AtChoose = in_opening stop m (and_then (Where endpoint_stands Nothing (Work kinds.Endpoint) ∷ Work kinds.Apply ∷ hook ModifyBeforeSigning ∷ hook ReadBeforeSigning ∷ Work kinds.Sign ∷ hook ReadAfterSigning ∷ hook ModifyBeforeTransmit ∷ hook ReadBeforeTransmit ∷ []))
+left_at stop m AtStartAttempt = in_turn stop m ((Nothing ⨟ Where (tests.HasStarted Attempt) (Under Attempt (InAttempt (attempt stop)) Nothing) (InAttempt (attempt stop))) ⨟ settle ⨟ Work kinds.Decide)
+left_at stop m AtReadBeforeAttempt = in_opening stop m (and_then (Work kinds.Choose ∷ Where tests.EndpointStands Nothing (Work kinds.Endpoint) ∷ Work kinds.Apply ∷ hook ModifyBeforeSigning ∷ hook ReadBeforeSigning ∷ Work kinds.Sign ∷ hook ReadAfterSigning ∷ hook ModifyBeforeTransmit ∷ hook ReadBeforeTransmit ∷ []))
+left_at stop m AtChoose = in_opening stop m (and_then (Where tests.EndpointStands Nothing (Work kinds.Endpoint) ∷ Work kinds.Apply ∷ hook ModifyBeforeSigning ∷ hook ReadBeforeSigning ∷ Work kinds.Sign ∷ hook ReadAfterSigning ∷ hook ModifyBeforeTransmit ∷ hook ReadBeforeTransmit ∷ []))
 left_at stop m AtEndpoint = in_opening stop m (and_then (Work kinds.Apply ∷ hook ModifyBeforeSigning ∷ hook ReadBeforeSigning ∷ Work kinds.Sign ∷ hook ReadAfterSigning ∷ hook ModifyBeforeTransmit ∷ hook ReadBeforeTransmit ∷ []))
 left_at stop m AtApply = in_opening stop m (and_then (hook ModifyBeforeSigning ∷ hook ReadBeforeSigning ∷ Work kinds.Sign ∷ hook ReadAfterSigning ∷ hook ModifyBeforeTransmit ∷ hook ReadBeforeTransmit ∷ []))
 left_at stop m AtModifyBeforeSigning = in_opening stop m (and_then (hook ReadBeforeSigning ∷ Work kinds.Sign ∷ hook ReadAfterSigning ∷ hook ModifyBeforeTransmit ∷ hook ReadBeforeTransmit ∷ []))
@@ -159,15 +170,20 @@ left_at stop m AtTransmit = in_sending stop m (and_then (hook ReadAfterTransmit 
 left_at stop m AtReadAfterTransmit = in_sending stop m (and_then (hook ModifyBeforeDeserialization ∷ hook ReadBeforeDeserialization ∷ []))
 left_at stop m AtModifyBeforeDeserialization = in_sending stop m (and_then (hook ReadBeforeDeserialization ∷ []))
 left_at stop m AtReadBeforeDeserialization = in_sending stop m Nothing
-left_at stop m AtStream = in_try stop m (Nothing ⨟ Where not_streaming (Work kinds.Body ⨟ Where body_read (Work kinds.Deserialize) Nothing) Nothing ⨟ hook ReadAfterDeserialization)
-left_at stop m AtBody = in_try stop m ((Nothing ⨟ Where body_read (Work kinds.Deserialize) Nothing) ⨟ hook ReadAfterDeserialization)
+left_at stop m AtStream = in_try stop m (Nothing ⨟ Where tests.NotStreaming (Work kinds.Body ⨟ Where tests.BodyRead (Work kinds.Deserialize) Nothing) Nothing ⨟ hook ReadAfterDeserialization)
+left_at stop m AtBody = in_try stop m ((Nothing ⨟ Where tests.BodyRead (Work kinds.Deserialize) Nothing) ⨟ hook ReadAfterDeserialization)
 left_at stop m AtDeserialize = in_try stop m (Nothing ⨟ hook ReadAfterDeserialization)
 left_at stop m AtReadAfterDeserialization = in_try stop m Nothing
 left_at stop m AtModifyBeforeAttemptCompletion = in_turn stop m ((Nothing ⨟ hook ReadAfterAttempt) ⨟ Work kinds.Decide)
 left_at stop m AtReadAfterAttempt = in_turn stop m (Nothing ⨟ Work kinds.Decide)
 left_at stop m AtDecide = in_turn stop m Nothing
-left_at stop m AtStartRetry = in_round stop m (Nothing ⨟ Where (started Retry) (Where checkpoint_stands (Work (kinds.Wait Retry) ⨟ Again) Nothing) Nothing)
-left_at stop m AtWaitRetry = in_round stop m (Nothing ⨟ Again)
+left_at stop m AtStartRetry = in_round stop m (Nothing ⨟ Where (tests.HasStarted Retry) (Where tests.CheckpointStands (Work (kinds.Wait Retry) ⨟ again) Nothing) Nothing)
+left_at stop m AtWaitRetry = in_round stop m (Nothing ⨟ again)
+left_at stop m AtStartLongPoll = in_round stop m (Nothing ⨟ Where (tests.HasStarted LongPoll) (Work (kinds.Wait LongPoll)) Nothing)
+left_at stop m AtWaitLongPoll = in_round stop m Nothing
+left_at stop m AtTokenInitial = in_token stop m (Nothing ⨟ Where tests.Delayed (Work (kinds.Start Send) ⨟ Where (tests.HasStarted Send) (Work (kinds.Wait Send) ⨟ Again) Nothing) Nothing)
+left_at stop m AtTokenStartSend = in_token stop m (Nothing ⨟ Where (tests.HasStarted Send) (Work (kinds.Wait Send) ⨟ Again) Nothing)
+left_at stop m AtTokenWaitSend = in_token stop m (Nothing ⨟ Again)
 left_at stop m AtCutModifyBeforeAttemptCompletion = (Nothing ⨟ hook ReadAfterAttempt) ⨟ finish
 left_at stop m AtCutReadAfterAttempt = Nothing ⨟ finish
 left_at stop m AtModifyBeforeCompletion = Nothing ⨟ hook ReadAfterExecution
@@ -226,6 +242,10 @@ ended m = record { armed = m; point = None }
 abbrev pub begin_turn : Armed → State → Place
 begin_turn m s = cond (timeout_stands Attempt s) (here m AtStartAttempt) (here (record { operation = m.operation; attempt = false }) AtReadBeforeAttempt)
 
+-- a further attempt begins, or asks for its token
+abbrev pub go_again : Armed → State → Place
+go_again m s = cond (token_needed s) (here m AtTokenInitial) (begin_turn m s)
+
 abbrev pub unless_failed : State → Place → Place → Place
 unless_failed s p q = cond (failed s) p q
 
@@ -282,9 +302,15 @@ next_point stop m AtReadAfterDeserialization s = settling_at m
 next_point stop m AtModifyBeforeAttemptCompletion s = here m AtReadAfterAttempt
 next_point stop m AtReadAfterAttempt s = here m AtDecide
 next_point stop m AtDecide s =
-    cond (decided_yes s) (cond (checkpoint_stands s) (begin_turn m s) (finishing_at m)) (cond (decided_delay s) (here m AtStartRetry) (finishing_at m))
+    cond (decided_yes s) (cond (checkpoint_stands s) (go_again m s) (finishing_at m))
+    (cond (decided_no_after s) (here m AtStartLongPoll) (cond (decided_delay s) (here m AtStartRetry) (finishing_at m)))
 next_point stop m AtStartRetry s = cond (started Retry s) (cond (checkpoint_stands s) (here m AtWaitRetry) (finishing_at m)) (finishing_at m)
-next_point stop m AtWaitRetry s = begin_turn m s
+next_point stop m AtWaitRetry s = go_again m s
+next_point stop m AtStartLongPoll s = cond (started LongPoll s) (here m AtWaitLongPoll) (finishing_at m)
+next_point stop m AtWaitLongPoll s = finishing_at m
+next_point stop m AtTokenInitial s = cond (delayed s) (here m AtTokenStartSend) (cond (went_on s) (begin_turn m s) (finishing_at m))
+next_point stop m AtTokenStartSend s = cond (started Send s) (here m AtTokenWaitSend) (finishing_at m)
+next_point stop m AtTokenWaitSend s = here m AtTokenInitial
 next_point stop m AtCutModifyBeforeAttemptCompletion s = here m AtCutReadAfterAttempt
 next_point stop m AtCutReadAfterAttempt s = finishing_at m
 next_point stop m AtModifyBeforeCompletion s = here m AtReadAfterExecution

@@ -90,8 +90,8 @@ impl Invocation {
         let question = self.standing.question(kind)?;
         let nanos = question.nanos();
         let answer = world.ask(alloc, question)?;
-        let reply = Reply::of(kind, &answer);
         let taken = self.standing.take_in(alloc, kind, nanos, &answer);
+        let reply = Reply::of(kind, self.standing.context.view.attempt, &answer);
         drop(answer);
         taken?;
         self.stage = moved(

@@ -13,28 +13,35 @@ pub struct Reply {
     pub failed: bool,
     pub delayed: bool,
     pub granted: bool,
+    /// Whether a further attempt goes on by this answer to its token.
+    pub goes_on: bool,
     /// The role of the sleep that was started.
     pub started: Option<Role>,
     pub not_streaming: bool,
     pub read: bool,
     pub again: bool,
+    /// Whether no further attempt is made, but a pause.
+    pub pauses: bool,
     pub again_later: bool,
 }
 
 impl Reply {
-    /// What this answer to a question of this kind says.
-    pub fn of(kind: Kind, answer: &Answer) -> Reply
-        ensures { result ≡ reply_of kind answer.now }
+    /// What this answer to a question of this kind says, where the attempt of this number stands
+    /// after it.
+    pub fn of(kind: Kind, attempt: u64, answer: &Answer) -> Reply
+        ensures { result ≡ reply_of kind attempt answer.now }
     {
         Reply {
             pending: can_wait(kind) && matches!(answer, Answer::Pending),
-            failed: answer.fails(kind),
+            failed: answer.fails(kind, attempt),
             delayed: matches!(answer, Answer::Delay(_)),
             granted: matches!(answer, Answer::Go),
+            goes_on: matches!(answer, Answer::Go | Answer::No),
             started: started(kind, answer),
             not_streaming: matches!(answer, Answer::NotStreaming),
             read: matches!(answer, Answer::Read(_)),
             again: matches!(answer, Answer::Decided(Choice::Yes, _)),
+            pauses: matches!(answer, Answer::Decided(Choice::NoAfter(_), _)),
             again_later: matches!(answer, Answer::Decided(Choice::Delay(_), _)),
         }
     }

@@ -1,8 +1,8 @@
 //! The way through a run: which question comes next.
 ghost use Rattle.std.specs.Prelude.{◌≡◌, cond};
 ghost use Rattle.run_grammar.specs.Standing.{State};
-ghost use Rattle.run_grammar.specs.Grammar.{failed};
-ghost use Rattle.orchestrate.specs.Points.{here, ended, settling_at, finishing_at, begin_turn, after_opened, next_point};
+ghost use Rattle.run_grammar.specs.Tests.{failed};
+ghost use Rattle.orchestrate.specs.Points.{here, ended, settling_at, finishing_at, begin_turn, go_again, after_opened, next_point};
 ghost use Rattle.orchestrate.specs.Replies.{Tells};
 
 use crate::point::Point;
@@ -69,7 +69,12 @@ pub fn next_point(
         Point::AtReadAfterAttempt => here(armed, Point::AtDecide),
         Point::AtDecide => after_decision(armed, reply, standing),
         Point::AtStartRetry => after_start_retry(armed, reply, standing),
-        Point::AtWaitRetry => begin_turn(armed, standing),
+        Point::AtWaitRetry => go_again(armed, standing),
+        Point::AtStartLongPoll => after_start_long_poll(armed, reply),
+        Point::AtWaitLongPoll => here(armed, Point::AtModifyBeforeCompletion),
+        Point::AtTokenInitial => after_token(armed, reply, standing),
+        Point::AtTokenStartSend => after_token_start_send(armed, reply),
+        Point::AtTokenWaitSend => here(armed, Point::AtTokenInitial),
         Point::AtCutModifyBeforeAttemptCompletion => here(armed, Point::AtCutReadAfterAttempt),
         Point::AtCutReadAfterAttempt => here(armed, Point::AtModifyBeforeCompletion),
         Point::AtModifyBeforeCompletion => here(armed, Point::AtReadAfterExecution),
@@ -77,7 +82,7 @@ pub fn next_point(
     }
 }
 
-#[tactic(auto, unfolding(run_grammar::specs::Grammar::failure_stands, run_grammar::specs::Grammar::timeout_stands))]
+#[tactic(auto, unfolding(run_grammar::specs::Tests::failure_stands, run_grammar::specs::Tests::timeout_stands))]
 fn after_configuration(armed: Armed, reply: Reply, standing: &Standing) -> Place
     ensures { (stop : StopPoint) (s : State) → s.context ≡ standing.now → Tells s reply → result ≡ next_point stop armed Point.AtConfigureFinal s }
 {
@@ -125,16 +130,18 @@ fn after_opening(stop: StopPoint, armed: Armed, reply: Reply) -> Place
     }
 }
 
-#[tactic(auto, unfolding(run_grammar::specs::Grammar::checkpoint_stands))]
+#[tactic(auto, unfolding(run_grammar::specs::Tests::checkpoint_stands))]
 fn after_decision(armed: Armed, reply: Reply, standing: &Standing) -> Place
     ensures { (stop : StopPoint) (s : State) → s.context ≡ standing.now → Tells s reply → result ≡ next_point stop armed Point.AtDecide s }
 {
     if reply.again {
         if standing.context.checkpoint.is_some() {
-            begin_turn(armed, standing)
+            go_again(armed, standing)
         } else {
             here(armed, Point::AtModifyBeforeCompletion)
         }
+    } else if reply.pauses {
+        here(armed, Point::AtStartLongPoll)
     } else if reply.again_later {
         here(armed, Point::AtStartRetry)
     } else {
@@ -185,7 +192,7 @@ fn or_settle(armed: Armed, reply: Reply, next: Point) -> Place
     }
 }
 
-#[tactic(auto, unfolding(run_grammar::specs::Grammar::timeout_stands))]
+#[tactic(auto, unfolding(run_grammar::specs::Tests::timeout_stands))]
 fn begin_turn(armed: Armed, standing: &Standing) -> Place
     ensures { (s : State) → s.context ≡ standing.now → result ≡ begin_turn armed s }
 {
@@ -202,6 +209,18 @@ fn begin_turn(armed: Armed, standing: &Standing) -> Place
     }
 }
 
+// A further attempt begins, or asks for its token.
+#[tactic(auto, unfolding(run_grammar::specs::Tests::token_needed))]
+fn go_again(armed: Armed, standing: &Standing) -> Place
+    ensures { (s : State) → s.context ≡ standing.now → result ≡ go_again armed s }
+{
+    if standing.needs_token() {
+        here(armed, Point::AtTokenInitial)
+    } else {
+        begin_turn(armed, standing)
+    }
+}
+
 fn after_start_operation(reply: Reply) -> Place
     ensures { (armed : Armed) (stop : StopPoint) (s : State) → Tells s reply → result ≡ next_point stop armed Point.AtStartOperation s }
 {
@@ -214,7 +233,7 @@ fn after_start_operation(reply: Reply) -> Place
     )
 }
 
-#[tactic(auto, unfolding(run_grammar::specs::Grammar::load_body))]
+#[tactic(auto, unfolding(run_grammar::specs::Tests::load_body))]
 fn after_serialize(armed: Armed, reply: Reply, standing: &Standing) -> Place
     ensures { (stop : StopPoint) (s : State) → s.context ≡ standing.now → Tells s reply → result ≡ next_point stop armed Point.AtSerialize s }
 {
@@ -247,7 +266,7 @@ fn after_start_attempt(armed: Armed, reply: Reply) -> Place
     )
 }
 
-#[tactic(auto, unfolding(run_grammar::specs::Grammar::endpoint_stands))]
+#[tactic(auto, unfolding(run_grammar::specs::Tests::endpoint_stands))]
 fn after_choose(armed: Armed, reply: Reply, standing: &Standing) -> Place
     ensures { (stop : StopPoint) (s : State) → s.context ≡ standing.now → Tells s reply → result ≡ next_point stop armed Point.AtChoose s }
 {
@@ -278,12 +297,44 @@ fn after_body(armed: Armed, reply: Reply) -> Place
     }
 }
 
-#[tactic(auto, unfolding(run_grammar::specs::Grammar::checkpoint_stands))]
+#[tactic(auto, unfolding(run_grammar::specs::Tests::checkpoint_stands))]
 fn after_start_retry(armed: Armed, reply: Reply, standing: &Standing) -> Place
     ensures { (stop : StopPoint) (s : State) → s.context ≡ standing.now → Tells s reply → result ≡ next_point stop armed Point.AtStartRetry s }
 {
     if reply.has_started(Role::Retry) && standing.context.checkpoint.is_some() {
         here(armed, Point::AtWaitRetry)
+    } else {
+        here(armed, Point::AtModifyBeforeCompletion)
+    }
+}
+
+fn after_start_long_poll(armed: Armed, reply: Reply) -> Place
+    ensures { (stop : StopPoint) (s : State) → Tells s reply → result ≡ next_point stop armed Point.AtStartLongPoll s }
+{
+    if reply.has_started(Role::LongPoll) {
+        here(armed, Point::AtWaitLongPoll)
+    } else {
+        here(armed, Point::AtModifyBeforeCompletion)
+    }
+}
+
+fn after_token(armed: Armed, reply: Reply, standing: &Standing) -> Place
+    ensures { (stop : StopPoint) (s : State) → s.context ≡ standing.now → Tells s reply → result ≡ next_point stop armed Point.AtTokenInitial s }
+{
+    if reply.delayed {
+        here(armed, Point::AtTokenStartSend)
+    } else if reply.goes_on {
+        begin_turn(armed, standing)
+    } else {
+        here(armed, Point::AtModifyBeforeCompletion)
+    }
+}
+
+fn after_token_start_send(armed: Armed, reply: Reply) -> Place
+    ensures { (stop : StopPoint) (s : State) → Tells s reply → result ≡ next_point stop armed Point.AtTokenStartSend s }
+{
+    if reply.has_started(Role::Send) {
+        here(armed, Point::AtTokenWaitSend)
     } else {
         here(armed, Point::AtModifyBeforeCompletion)
     }

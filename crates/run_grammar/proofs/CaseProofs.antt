@@ -1,4 +1,5 @@
 -- A run is one of the four cases.
+use Rattle.run_grammar.specs.declared.production.Test.TheVariants as tests
 use Rattle.std.proofs.Common.{Bool, true, false, cond, List, [], ◌∷◌, ◌++◌, ◌≡◌, ◌⊎◌, refl, sym, ap, ◌∙◌, subst, inl, inr, append_assoc, append-nil}
 use Rattle.run_grammar.specs.declared.kind.Role.TheVariants.{Operation, Attempt, Send, LongPoll, Retry}
 use Rattle.run_grammar.specs.declared.answer.Entry.{Entry}
@@ -9,7 +10,8 @@ use Rattle.run_grammar.specs.Words.{Word, ScopeEnds}
 use Rattle.run_grammar.specs.declared.kind.Kind.TheVariants.{Configure}
 use Rattle.smithy_types.specs.declared.hook.Hook.TheVariants.{ReadBeforeExecutionClient, ReadBeforeExecutionOperation}
 use Rattle.run_grammar.specs.declared.kind.ConfigureStage.TheVariants as stages
-use Rattle.run_grammar.specs.Grammar.{hook, arm, armed, configured, failed, failure_stands, finish, op, settle, started, run}
+use Rattle.run_grammar.specs.Grammar.{hook, arm, armed, configured, finish, op, settle, run}
+use Rattle.run_grammar.specs.Tests.{failed, failure_stands, started}
 use Rattle.run_grammar.specs.Laws.{IsRun}
 use Rattle.run_grammar.specs.Cases.{AndThen, armed_after, OpThenFinish, CutOpThenFinish, RunCases}
 use Rattle.run_grammar.proofs.Spots.{carry, carry_back, at_nil}
@@ -33,30 +35,30 @@ abbrev Halted : (Production → Production) → Type 0
 Halted c = (p : Production) (s : State) (l : List Entry) → Halts c p s l → Ends (c p) s l
 
 abbrev unless : (Production → Production) → Production → Production
-unless c p = Where failed Nothing (c p)
+unless c p = Where tests.Failed Nothing (c p)
 
-where_true : (p q : Production) (s : State) (l : List Entry) → failed s ≡ true → Ends p s l → Ends (Where failed p q) s l
+where_true : (p q : Production) (s : State) (l : List Entry) → failed s ≡ true → Ends p s l → Ends (Where tests.Failed p q) s l
 where_true p q s l h v = subst (λ b. cond b (Ends p s l) (Ends q s l)) (sym h) v
 
-where_false : (p q : Production) (s : State) (l : List Entry) → failed s ≡ false → Ends q s l → Ends (Where failed p q) s l
+where_false : (p q : Production) (s : State) (l : List Entry) → failed s ≡ false → Ends q s l → Ends (Where tests.Failed p q) s l
 where_false p q s l h v = subst (λ b. cond b (Ends p s l) (Ends q s l)) (sym h) v
 
 nothing_here : (s : State) (l : List Entry) (b : Bool) → failed s ≡ b → l ≡ [] → failed (standing s l) ≡ b
 nothing_here s l b h n = subst (λ m. failed (standing s m) ≡ b) (sym n) h
 
 -- the base: where nothing failed, p
-base_halting : Halting (λ p. Where failed Nothing p)
+base_halting : Halting (λ p. Where tests.Failed Nothing p)
 base_halting p s l w =
-    (elim (failed s) as (λ b. failed s ≡ b → cond b (Ends Nothing s l) (Ends p s l) → Halts (λ q. Where failed Nothing q) p s l) [
+    (elim (failed s) as (λ b. failed s ≡ b → cond b (Ends Nothing s l) (Ends p s l) → Halts (λ q. Where tests.Failed Nothing q) p s l) [
       | true ↦ λ h v. inl (where_true Nothing Nothing s l h v, nothing_here s l true h v.1)
       | false ↦ λ h v. inr ([], l, refl, where_false Nothing Nothing s [] h (refl, refl), (h, v))
     ]) refl w
 
-both_nothing : (s : State) (l : List Entry) → Ends (Where failed Nothing Nothing) s l → l ≡ []
+both_nothing : (s : State) (l : List Entry) → Ends (Where tests.Failed Nothing Nothing) s l → l ≡ []
 both_nothing s l w =
     (elim (failed s) as (λ b. cond b (Ends Nothing s l) (Ends Nothing s l) → l ≡ []) [ true ↦ λ v. v.1 | false ↦ λ v. v.1 ]) w
 
-base_halted : Halted (λ p. Where failed Nothing p)
+base_halted : Halted (λ p. Where tests.Failed Nothing p)
 base_halted p s l (inl (w, h)) =
     let n = both_nothing s l w in where_true Nothing p s l (subst (λ m. failed (standing s m) ≡ true) n h) (refl, n)
 base_halted p s l (inr (a, b, e, w, (h, v))) =
@@ -116,13 +118,13 @@ where_halted c f p s l (inr (a, b, e, w, (g, y))) =
     ]) refl w
 
 abbrev base : Production → Production
-base p = Where failed Nothing p
+base p = Where tests.Failed Nothing p
 
 abbrev pub third : Production → Production
-third p = hook ReadBeforeExecutionOperation ⨟ Work (Configure stages.Final) ⨟ Where failed Nothing p
+third p = hook ReadBeforeExecutionOperation ⨟ Work (Configure stages.Final) ⨟ Where tests.Failed Nothing p
 
 abbrev pub second : Production → Production
-second p = hook ReadBeforeExecutionClient ⨟ Work (Configure stages.Operation) ⨟ Where failed Nothing (third p)
+second p = hook ReadBeforeExecutionClient ⨟ Work (Configure stages.Operation) ⨟ Where tests.Failed Nothing (third p)
 
 third_halting : Halting third
 third_halting = seq_halting (hook ReadBeforeExecutionOperation) (λ p. Work (Configure stages.Final) ⨟ base p) (seq_halting (Work (Configure stages.Final)) base base_halting)
@@ -147,10 +149,10 @@ config_halted : Halted configured
 config_halted = seq_halted (Work (Configure stages.Client)) (unless second) (where_halted second second_halted)
 
 abbrev scoped : StopPoint → Production
-scoped stop = Where (started Operation) (Under Operation (op stop) settle) (op stop)
+scoped stop = Where (tests.HasStarted Operation) (Under Operation (op stop) settle) (op stop)
 
 abbrev pub body : StopPoint → Production
-body stop = Where failure_stands (arm Operation ⨟ finish) (armed Operation (op stop) settle ⨟ finish)
+body stop = Where tests.FailureStands (arm Operation ⨟ finish) (armed Operation (op stop) settle ⨟ finish)
 
 -- what follows Arm(Operation)
 abbrev Tail : StopPoint → State → List Entry → Type 0

@@ -1,4 +1,5 @@
 -- The rounds of the grammar can be ended.
+use Rattle.run_grammar.specs.declared.production.Test.TheVariants as tests
 use Rattle.std.proofs.Common.{Bool, true, false, cond, List, ◌≡◌, refl, sym, ap, ◌∙◌, subst}
 use Rattle.run_grammar.specs.declared.kind.Role.{Role}
 use Rattle.run_grammar.specs.declared.kind.Kind.{Kind}
@@ -7,10 +8,11 @@ use Rattle.run_grammar.specs.declared.kind.Kind.TheVariants.{Decide, Initial}
 use Rattle.run_grammar.specs.declared.kind.Role.TheVariants.{Attempt, Operation}
 use Rattle.smithy_types.specs.declared.kinds.StopPoint.TheVariants as stops
 use Rattle.run_grammar.specs.Standing.{State, standing, step}
-use Rattle.run_grammar.specs.Grammar.{run, op, loop, round, turn, attempt, armed, arm, grant, grant_round, front, settle, finish, decided_yes, decided_delay, delayed}
+use Rattle.run_grammar.specs.Grammar.{run, op, loop, again, round, turn, attempt, armed, arm, grant, grant_round, front, settle, finish}
+use Rattle.run_grammar.specs.Tests.{decided_yes, decided_no_after, decided_delay, delayed}
 use Rattle.run_grammar.specs.Production.{Production, Nothing, Work, ◌⨟◌, Where, Rounds, Again, InAttempt, Under, Ended}
 use Rattle.run_grammar.proofs.Spots.{standing-append}
-use Rattle.run_grammar.proofs.Rounds.{plain, both_plain, attempt_plain, round_plain}
+use Rattle.run_grammar.proofs.Rounds.{plain, both_plain, attempt_plain, turn_plain}
 use Rattle.run_grammar.proofs.Finishing.{Done, Closing, closed, ending, closer, done_work, done_then_here, done_where_false, done_nothing}
 
 pub plain_closing : (p : Production) → plain p ≡ true → Closing p
@@ -35,14 +37,14 @@ ends_then k p q ds s d f =
     let e = f (standing s d.list) in
     (done_then_here p q ds Ended s d e.0, λ test g. ap test (standing-append d.list e.0.list s) ∙ e.1 test g)
 
-attempt_closed : (stop : StopPoint) → closed (attempt stop) ≡ true
+pub attempt_closed : (stop : StopPoint) → closed (attempt stop) ≡ true
 attempt_closed stops.None = refl
 attempt_closed stops.BeforeTransmit = refl
 
 armed_plain : (d : Role) (p after : Production) → plain p ≡ true → plain after ≡ true → plain (armed d p after) ≡ true
 armed_plain d p after h g = subst (λ b. cond (cond b (plain after) false) b false ≡ true) (sym h) (subst (λ b. cond b true false ≡ true) (sym g) refl)
 
-armed_closed : (d : Role) (p after : Production) → closed p ≡ true → closed after ≡ true → closed (armed d p after) ≡ true
+pub armed_closed : (d : Role) (p after : Production) → closed p ≡ true → closed after ≡ true → closed (armed d p after) ≡ true
 armed_closed d p after h g = subst (λ b. cond (cond b (closed after) false) b false ≡ true) (sym h) (subst (λ b. cond b true false ≡ true) (sym g) refl)
 
 done_attempt : (stop : StopPoint) (ds : List Role) (s : State) → Done (armed Attempt (InAttempt (attempt stop)) Nothing) ds Ended s
@@ -66,6 +68,10 @@ not_delay : (t : State) → decided_delay (step t (closer Decide t)) ≡ false
 unfolding decided_delay step
 not_delay t = refl
 
+not_no_after : (t : State) → decided_no_after (step t (closer Decide t)) ≡ false
+unfolding decided_no_after step
+not_no_after t = refl
+
 not_delayed : (t : State) → delayed (step t (closer Initial t)) ≡ false
 unfolding delayed step
 not_delayed t = refl
@@ -74,20 +80,27 @@ pub done_round : (stop : StopPoint) (ds : List Role) (s : State) → Done (round
 done_round stop ds s =
     let e = ends_turn stop ds s in
     done_then_here (turn stop) _ ds Ended s e.0
-    (done_where_false decided_yes _ _ ds Ended (standing s e.0.list) (e.1 decided_yes not_yes)
-    (done_where_false decided_delay _ _ ds Ended (standing s e.0.list) (e.1 decided_delay not_delay) (done_nothing ds (standing s e.0.list))))
+    (done_where_false tests.DecidedYes _ _ ds Ended (standing s e.0.list) (e.1 decided_yes not_yes)
+    (done_where_false tests.DecidedNoAfter _ _ ds Ended (standing s e.0.list) (e.1 decided_no_after not_no_after)
+    (done_where_false tests.DecidedDelay _ _ ds Ended (standing s e.0.list) (e.1 decided_delay not_delay) (done_nothing ds (standing s e.0.list)))))
 
 pub done_grant_round : (ds : List Role) (s : State) → Done grant_round ds Ended s
 done_grant_round ds s =
     let e = ends_work Initial ds s in
     done_then_here (Work Initial) _ ds Ended s e.0
-    (done_where_false delayed _ _ ds Ended (standing s e.0.list) (e.1 delayed not_delayed) (done_nothing ds (standing s e.0.list)))
-
-closing_loop : (stop : StopPoint) → Closing (loop stop)
-closing_loop stop = let f = plain_closing (round stop) (round_plain stop) in (f, f, λ ds s. done_round stop ds s)
+    (done_where_false tests.Delayed _ _ ds Ended (standing s e.0.list) (e.1 delayed not_delayed) (done_nothing ds (standing s e.0.list)))
 
 closing_grant : Closing grant
 closing_grant = let f = plain_closing grant_round refl in (f, f, λ ds s. done_grant_round ds s)
+
+closing_again : Closing again
+closing_again = ((closing_grant, (tt, tt)), tt)
+
+closing_round : (stop : StopPoint) → Closing (round stop)
+closing_round stop = (plain_closing (turn stop) (turn_plain stop), ((closing_again, tt), ((tt, (tt, tt)), ((tt, (((tt, closing_again), tt), tt)), tt))))
+
+closing_loop : (stop : StopPoint) → Closing (loop stop)
+closing_loop stop = let f = closing_round stop in (f, f, λ ds s. done_round stop ds s)
 
 closing_op : (stop : StopPoint) → Closing (op stop)
 closing_op stop = (plain_closing front refl, (tt, (closing_grant, (closing_loop stop, tt))))

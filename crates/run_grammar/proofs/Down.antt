@@ -1,4 +1,5 @@
 -- A word of a production is a word of the spot where it begins.
+use Rattle.run_grammar.specs.Tests.{holds}
 use Rattle.std.proofs.Common.{Bool, true, false, cond, ℕ, zero, suc, List, [], ◌∷◌, ◌++◌, ◌≡◌, refl, sym, ap, ◌∙◌, subst, inl, inr, append-nil}
 use Rattle.run_grammar.specs.declared.kind.Role.{Role}
 use Rattle.run_grammar.specs.declared.kind.Kind.{Kind}
@@ -159,7 +160,7 @@ down (p ⨟ q) g ds x s l (inl (a, b, e, v, w)) =
     then_down (first p ds s) (first q ds s) q ds x s l a b e (down p g.0 ds Ended s a v) w (λ u. down q g.1 ds x s l u)
 down (p ⨟ q) g ds x s l (inr (h, w)) = early_down (first p ds s) (first q ds s) q ds x s l h (down p g.0 ds x s l w)
 down (Where test p q) g ds x s l w =
-    (elim (test s) as (λ b. cond b (Word p ds x s l) (Word q ds x s l) → SpotWord (cond b (first p ds s) (first q ds s)) ds x s l)
+    (elim (holds test s) as (λ b. cond b (Word p ds x s l) (Word q ds x s l) → SpotWord (cond b (first p ds s) (first q ds s)) ds x s l)
     [ true ↦ λ v. down p g.0 ds x s l v | false ↦ λ v. down q g.1 ds x s l v ]) w
 down (Rounds p q) g ds x s l (n, w) =
     rounds_down (first p ds s) (first q ds s) p q ds n x s l (g.2 ds s) (λ y m v. down p g.0 ds y s m v) (λ y m v. down q g.1 ds y s m v) w

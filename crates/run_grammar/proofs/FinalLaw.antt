@@ -1,5 +1,6 @@
 -- Both finalizers once.
-use Rattle.std.proofs.Common.{Bool, true, false, cond, List, [], ◌∷◌, ◌++◌, ◌≡◌, ◌⊎◌, refl, sym, ap, ◌∙◌, subst, inl, inr}
+use Rattle.run_grammar.specs.declared.production.Test.TheVariants as tests
+use Rattle.std.proofs.Common.{Bool, true, false, cond, ℕ, List, [], ◌∷◌, ◌++◌, ◌≡◌, ◌⊎◌, refl, sym, ap, ◌∙◌, subst, inl, inr}
 use Rattle.smithy_types.specs.declared.hook.Hook.{Hook}
 use Rattle.smithy_types.specs.declared.hook.Hook.TheVariants as hooks
 use Rattle.run_grammar.specs.declared.kind.Role.{Role}
@@ -15,7 +16,8 @@ use Rattle.run_grammar.specs.Entry.{kind_of, pending, ready, fails, sets_failure
 use Rattle.run_grammar.specs.Standing.{State, standing, step}
 use Rattle.run_grammar.specs.Production.{Production, Nothing, Work, ◌⨟◌, Where, Ended}
 use Rattle.run_grammar.specs.Words.{Answered}
-use Rattle.run_grammar.specs.Grammar.{configured, failed}
+use Rattle.run_grammar.specs.Grammar.{configured}
+use Rattle.run_grammar.specs.Tests.{failed}
 use Rattle.run_grammar.specs.Attempts.{asked_of}
 use Rattle.run_grammar.specs.Finals.{is_finalizer, is_configure, is_layer, EachConfigured, Finalized, FinalizersOnce}
 use Rattle.run_grammar.proofs.Spots.{standing-append}
@@ -138,14 +140,14 @@ finalized (e ∷ l) m h y =
     ]
 
 -- where each Configure answered Layer the configuration does not end early
-layer_stands : (stage : ConfigureStage) (a : Answer) → is_layer a ≡ true → sets_failure (kinds.Configure stage) a ≡ false
-layer_stands stage (answers.Layer l) h = refl
-layer_stands stage _ h = absurd (cc)
+layer_stands : (stage : ConfigureStage) (n : ℕ) (a : Answer) → is_layer a ≡ true → sets_failure (kinds.Configure stage) n a ≡ false
+layer_stands stage n (answers.Layer l) h = refl
+layer_stands stage n _ h = absurd (cc)
 
-configure_stands : (e : Entry) (stage : ConfigureStage) → kind_of e ≡ kinds.Configure stage → cond (is_configure (kind_of e)) (is_layer e.answer) true ≡ true → fails e ≡ false
+configure_stands : (n : ℕ) (e : Entry) (stage : ConfigureStage) → kind_of e ≡ kinds.Configure stage → cond (is_configure (kind_of e)) (is_layer e.answer) true ≡ true → fails n e ≡ false
 unfolding fails
-configure_stands e stage k h =
-    ap (λ j. sets_failure j e.answer) k ∙ layer_stands stage e.answer (sym (ap (λ j. cond (is_configure j) (is_layer e.answer) true) k) ∙ h)
+configure_stands n e stage k h =
+    ap (λ j. sets_failure j n e.answer) k ∙ layer_stands stage n e.answer (sym (ap (λ j. cond (is_configure j) (is_layer e.answer) true) k) ∙ h)
 
 -- no word of it, each of whose Configures answered Layer, ends with a failure; and the same where nothing failed before it
 abbrev Stands : Production → Type 0
@@ -164,9 +166,9 @@ failed_behind s l a b e h = subst (λ t. failed t ≡ true) (ap (λ o. standing 
 -- a Configure, and then p where it did not fail
 answer_stands : (stage : ConfigureStage) (s : State) (a : List Entry) → EachConfigured a → Answered (kinds.Configure stage) a → failed (standing s a) ≡ false
 unfolding failed step
-answer_stands stage s a c (x, n, k, q) = ap (λ o. failed (standing s o)) n ∙ configure_stands x stage k (subst EachConfigured n c).0
+answer_stands stage s a c (x, n, k, q) = ap (λ o. failed (standing s o)) n ∙ configure_stands (standing s (x ∷ [])).context.context.view.attempt x stage k (subst EachConfigured n c).0
 
-stands_then : (stage : ConfigureStage) (p : Production) → StandsOn p → Stands (Work (kinds.Configure stage) ⨟ Where failed Nothing p)
+stands_then : (stage : ConfigureStage) (p : Production) → StandsOn p → Stands (Work (kinds.Configure stage) ⨟ Where tests.Failed Nothing p)
 stands_then stage p f s l c (inl (a, b, e, v, w)) h =
     let d = configured_split a b (subst EachConfigured e c) in
     let g = answer_stands stage s a d.0 (answered_alone (kinds.Configure stage) [] Ended s a refl v) in
@@ -182,11 +184,11 @@ nothing_stands : StandsOn Nothing
 nothing_stands s l f c w h = let g = sym f ∙ ap (λ o. failed (standing s o)) (sym w.1) ∙ h in cc
 
 third_stands : Stands (third Nothing)
-third_stands = stands_behind hooks.ReadBeforeExecutionOperation (Work (kinds.Configure stages.Final) ⨟ Where failed Nothing Nothing) (stands_then stages.Final Nothing nothing_stands)
+third_stands = stands_behind hooks.ReadBeforeExecutionOperation (Work (kinds.Configure stages.Final) ⨟ Where tests.Failed Nothing Nothing) (stands_then stages.Final Nothing nothing_stands)
 
 second_stands : Stands (second Nothing)
 second_stands =
-    stands_behind hooks.ReadBeforeExecutionClient (Work (kinds.Configure stages.Operation) ⨟ Where failed Nothing (third Nothing))
+    stands_behind hooks.ReadBeforeExecutionClient (Work (kinds.Configure stages.Operation) ⨟ Where tests.Failed Nothing (third Nothing))
     (stands_then stages.Operation (third Nothing) (λ s l f. third_stands s l))
 
 configured_stands : Stands (configured Nothing)

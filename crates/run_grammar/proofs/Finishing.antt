@@ -1,4 +1,6 @@
 -- From every position some whole list goes on.
+use Rattle.run_grammar.specs.declared.production.Test.{Test}
+use Rattle.run_grammar.specs.Tests.{holds}
 use Rattle.std.proofs.Common.{Bool, true, false, cond, zero, suc, None, List, [], ◌∷◌, ◌++◌, ◌≡◌, ◌⊎◌, refl, sym, ap, subst, inl, inr, append-nil}
 use Rattle.run_grammar.specs.declared.kind.Role.{Role}
 use Rattle.run_grammar.specs.declared.kind.Kind.{Kind}
@@ -218,19 +220,19 @@ finish_under : (c : Role) (p q : Production) (ds : List Role) (s : State) → Fi
 finish_under c p q ds s (inl d) = inl (done_under c p q ds s d)
 finish_under c p q ds s (inr (h, d)) = inr (left_open (closed p) (closed q) h, done_under_further c p q ds s d)
 
-done_where_true : (t : State → Bool) (p q : Production) (ds : List Role) (x : End) (s : State) → t s ≡ true → Done p ds x s → Done (Where t p q) ds x s
+done_where_true : (t : Test) (p q : Production) (ds : List Role) (x : End) (s : State) → holds t s ≡ true → Done p ds x s → Done (Where t p q) ds x s
 done_where_true t p q ds x s h d =
     record { list = d.list; word = subst (λ b. cond b (Word p ds x s d.list) (Word q ds x s d.list)) (sym h) d.word; handed = d.handed; fitting = d.fitting }
 
-pub done_where_false : (t : State → Bool) (p q : Production) (ds : List Role) (x : End) (s : State) → t s ≡ false → Done q ds x s → Done (Where t p q) ds x s
+pub done_where_false : (t : Test) (p q : Production) (ds : List Role) (x : End) (s : State) → holds t s ≡ false → Done q ds x s → Done (Where t p q) ds x s
 done_where_false t p q ds x s h d =
     record { list = d.list; word = subst (λ b. cond b (Word p ds x s d.list) (Word q ds x s d.list)) (sym h) d.word; handed = d.handed; fitting = d.fitting }
 
-finish_where_true : (t : State → Bool) (p q : Production) (ds : List Role) (s : State) → t s ≡ true → Finish p ds s → Finish (Where t p q) ds s
+finish_where_true : (t : Test) (p q : Production) (ds : List Role) (s : State) → holds t s ≡ true → Finish p ds s → Finish (Where t p q) ds s
 finish_where_true t p q ds s h (inl d) = inl (done_where_true t p q ds Ended s h d)
 finish_where_true t p q ds s h (inr (o, d)) = inr (left_open (closed p) (closed q) o, done_where_true t p q ds Further s h d)
 
-finish_where_false : (t : State → Bool) (p q : Production) (ds : List Role) (s : State) → t s ≡ false → Finish q ds s → Finish (Where t p q) ds s
+finish_where_false : (t : Test) (p q : Production) (ds : List Role) (s : State) → holds t s ≡ false → Finish q ds s → Finish (Where t p q) ds s
 finish_where_false t p q ds s h (inl d) = inl (done_where_false t p q ds Ended s h d)
 finish_where_false t p q ds s h (inr (o, d)) = inr (right_open (closed p) (closed q) o, done_where_false t p q ds Further s h d)
 
@@ -247,7 +249,7 @@ finishing Again c ds s = inr (refl, record { list = []; word = (refl, refl); han
 finishing (Work k) c ds s = inl (done_work k ds s)
 finishing (p ⨟ q) c ds s = finish_then p q ds s (finishing p c.0 ds s) (λ t. finishing q c.1 ds t)
 finishing (Where test p q) c ds s =
-    (elim (test s) as (λ b. test s ≡ b → Finish (Where test p q) ds s) [
+    (elim (holds test s) as (λ b. holds test s ≡ b → Finish (Where test p q) ds s) [
       | true ↦ λ h. finish_where_true test p q ds s h (finishing p c.0 ds s)
       | false ↦ λ h. finish_where_false test p q ds s h (finishing q c.1 ds s)
     ]) refl

@@ -1,4 +1,5 @@
 -- The productions that are left keep what finishing needs, and the positions too.
+use Rattle.run_grammar.specs.Tests.{holds}
 use Rattle.std.proofs.Common.{Bool, true, false, cond, zero, List, [], ◌∷◌, ◌≡◌, ◌⊎◌, refl, sym, subst, inl, inr}
 use Rattle.run_grammar.specs.declared.kind.Role.{Role}
 use Rattle.run_grammar.specs.declared.kind.Kind.{Kind}
@@ -59,7 +60,7 @@ closing_first Again f ds s = tt
 closing_first (Work k) f ds s = tt
 closing_first (p ⨟ q) f ds s = closing_then (first p ds s) (first q ds s) q (closing_first p f.0 ds s) (closing_first q f.1 ds s) f.1
 closing_first (Where test p q) f ds s =
-    elim (test s) as (λ b. ClosingSpot (cond b (first p ds s) (first q ds s))) [ true ↦ closing_first p f.0 ds s | false ↦ closing_first q f.1 ds s ]
+    elim (holds test s) as (λ b. ClosingSpot (cond b (first p ds s) (first q ds s))) [ true ↦ closing_first p f.0 ds s | false ↦ closing_first q f.1 ds s ]
 closing_first (Rounds p q) f ds s = closing_round (first p ds s) (first q ds s) q (closing_first p f.0 ds s) (closing_first q f.1 ds s) f.1 f.2
 closing_first (InAttempt p) f ds s = closing_within (first p ds s) (closing_first p f ds s)
 closing_first (Under c p q) f ds s = closing_under c (first p (c ∷ ds) s) q (closing_first p f.0 (c ∷ ds) s) f.1
@@ -146,7 +147,7 @@ closed_first (p ⨟ q) f ds s =
     let b = both_closed (closed p) (closed q) f in closed_then (first p ds s) (first q ds s) q (closed_first p b.0 ds s) (closed_first q b.1 ds s) b.1
 closed_first (Where test p q) f ds s =
     let b = both_closed (closed p) (closed q) f in
-    elim (test s) as (λ b. SpotClosed (cond b (first p ds s) (first q ds s))) [ true ↦ closed_first p b.0 ds s | false ↦ closed_first q b.1 ds s ]
+    elim (holds test s) as (λ b. SpotClosed (cond b (first p ds s) (first q ds s))) [ true ↦ closed_first p b.0 ds s | false ↦ closed_first q b.1 ds s ]
 closed_first (Rounds p q) f ds s = closed_round (first p ds s) (first q ds s) q
 closed_first (InAttempt p) f ds s = closed_within (first p ds s) (closed_first p f ds s)
 closed_first (Under c p q) f ds s =
@@ -276,7 +277,7 @@ caught_first Again ds s = tt
 caught_first (Work k) ds s = each_in ds (CaughtBy Nothing ds) (λ d h. inr h)
 caught_first (p ⨟ q) ds s = caught_then ds (first p ds s) (first q ds s) q (caught_first p ds s) (caught_first q ds s)
 caught_first (Where test p q) ds s =
-    elim (test s) as (λ b. SpotCaught ds (cond b (first p ds s) (first q ds s))) [ true ↦ caught_first p ds s | false ↦ caught_first q ds s ]
+    elim (holds test s) as (λ b. SpotCaught ds (cond b (first p ds s) (first q ds s))) [ true ↦ caught_first p ds s | false ↦ caught_first q ds s ]
 caught_first (Rounds p q) ds s = caught_round ds (first p ds s) (first q ds s) q (caught_first p ds s) (caught_first q ds s)
 caught_first (InAttempt p) ds s = caught_within ds (first p ds s) (caught_first p ds s)
 caught_first (Under c p q) ds s = caught_under c ds (first p (c ∷ ds) s) q (caught_first p (c ∷ ds) s)

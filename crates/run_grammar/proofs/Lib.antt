@@ -12,7 +12,9 @@ pub mod TheLaws
 pub mod CaseProofs
 pub mod Outcomes
 pub mod OutcomeWords
+pub mod Beginnings
 pub mod RunLeaves
+pub mod Grants
 pub mod OutcomeProofs
 pub mod Requests
 pub mod RequestProofs
@@ -23,5 +25,6 @@ pub mod WatchedRun
 pub mod AttemptLaw
 pub mod FinalLaw
 pub mod ScopeLaw
+pub mod TokenLaw
 pub mod Breaking
 pub mod SampleLists

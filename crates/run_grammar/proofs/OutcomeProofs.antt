@@ -1,4 +1,5 @@
 -- At the end of a whole run without a stop point an outcome stands.
+use Rattle.run_grammar.specs.declared.production.Test.TheVariants as tests
 use Rattle.std.proofs.Common.{Bool, true, false, cond, zero, suc, ℕ, is_some, List, [], ◌∷◌, ◌≡◌, ◌⊎◌, refl, sym, subst, inl, inr, arith}
 use Rattle.smithy_types.specs.declared.hook.Hook.{Hook}
 use Rattle.smithy_types.specs.declared.hook.Hook.TheVariants as hooks
@@ -15,14 +16,16 @@ use Rattle.run_grammar.specs.Change.{changed}
 use Rattle.run_grammar.specs.Standing.{State, standing, step}
 use Rattle.run_grammar.specs.Production.{Production, Nothing, Work, ◌⨟◌, Where, Again, InAttempt, Ended}
 use Rattle.run_grammar.specs.Words.{Word, RoundsOf}
-use Rattle.run_grammar.specs.Grammar.{answers_delay, answers_go, answers_started, answers_not_streaming, answers_read, answers_decided_yes, is_start_of, failed, delayed, went, started, not_streaming, body_read, decided_yes, decided_delay, checkpoint_stands, timeout_stands, hook, halted, arm, armed, opening, sending, streaming, attempt, settle, turn, round, loop, front, grant_round, grant, op, finish, run}
+use Rattle.run_grammar.specs.Grammar.{hook, halted, arm, armed, opening, sending, streaming, attempt, settle, turn, again, round, loop, front, grant, op, finish, run}
+use Rattle.run_grammar.specs.Tests.{answers_delay, answers_go, answers_started, answers_not_streaming, answers_read, answers_decided_yes, is_start_of, failed, delayed, went, started, not_streaming, body_read, decided_yes, decided_delay, checkpoint_stands, timeout_stands}
 use Rattle.run_grammar.specs.Laws.{EachFits}
 use Rattle.run_grammar.specs.Outcomes.{OutcomeStands}
 use Rattle.run_grammar.proofs.Spots.{standing-append}
 use Rattle.run_grammar.proofs.Paths.{fits_of}
-use Rattle.run_grammar.proofs.Outcomes.{Has, is_calm, deserialized, decided_stands, retried_stands, streamed_stands, read_stands, granted_stands, sent_stands}
-use Rattle.run_grammar.proofs.OutcomeWords.{Stood, Sound, Keeps, Gives, answered_holds, answered_once, sound_on, joined, stood_covers, leaves_work, leaves_after, keeps_nothing, keeps_work, keeps_then, keeps_where, gives_halt, gives_in_attempt, gives_rounds}
-use Rattle.run_grammar.proofs.RunLeaves.{behind_whole, leaves_armed, leaves_run}
+use Rattle.run_grammar.proofs.Outcomes.{Has, is_calm, deserialized, decided_stands, retried_stands, streamed_stands, read_stands}
+use Rattle.run_grammar.proofs.OutcomeWords.{Stood, Sound, Keeps, Gives, LeavesFrom, answered_holds, answered_from, sound_on, joined, stood_covers, leaves_work, leaves_after, from_after, from_halt, keeps_nothing, keeps_work, keeps_then, keeps_where, gives_halt, gives_in_attempt, gives_rounds, carries_sound}
+use Rattle.run_grammar.proofs.Grants.{Fresh, Gone, by_answer, by_one_answer, otherwise, no_choice, unless, early_fresh, begins_fresh, first_granted, gives_again}
+use Rattle.run_grammar.proofs.RunLeaves.{behind_whole, from_armed, leaves_run}
 
 -- ---- after the last answer of a kind
 
@@ -49,24 +52,6 @@ unfolding step changed fits
 formed s e k p f =
     subst (λ j. Has (changed j (nanos_of e.question) e.answer s.context)) (sym k) (deserialized s.context e.answer (subst (λ j. fits j e.answer ≡ true) k f))
 
-abbrev Granted : State → Type 0
-Granted s = (delayed s ≡ true) ⊎ (went s ≡ true) ⊎ Stood s
-
-granted : (s : State) (e : Entry) → kind_of e ≡ kinds.Initial → pending e ≡ false → fits (kind_of e) e.answer ≡ true → Granted (step s e)
-unfolding step delayed went
-granted s e k p f =
-    subst (λ j. (answers_delay e.answer ≡ true) ⊎ (answers_go e.answer ≡ true) ⊎ Has (changed j (nanos_of e.question) e.answer s.context)) (sym k)
-    (granted_stands (nanos_of e.question) e.answer s.context (subst (λ j. fits j e.answer ≡ true) k f))
-
-abbrev Sent : State → Type 0
-Sent s = (started roles.Send s ≡ true) ⊎ Stood s
-
-sent : (s : State) (e : Entry) → kind_of e ≡ kinds.Start roles.Send → pending e ≡ false → fits (kind_of e) e.answer ≡ true → Sent (step s e)
-unfolding step started
-sent s e k p f =
-    subst (λ j. (cond (is_start_of roles.Send j) (answers_started e.answer) false ≡ true) ⊎ Has (changed j (nanos_of e.question) e.answer s.context)) (sym k)
-    (sent_stands (nanos_of e.question) e.answer s.context (subst (λ j. fits j e.answer ≡ true) k f))
-
 abbrev Decided : State → Type 0
 Decided s = Stood s ⊎ ((decided_yes s ≡ true) × (checkpoint_stands s ≡ true))
 
@@ -85,66 +70,28 @@ retried s e h k f =
     subst (λ j. Has (changed j (nanos_of e.question) e.answer s.context) ⊎ ((cond (is_start_of roles.Retry j) (answers_started e.answer) false ≡ true) × (is_some (changed j (nanos_of e.question) e.answer s.context).context.checkpoint ≡ true))) (sym k)
     (retried_stands (nanos_of e.question) e.answer s.context (subst (λ j. fits j e.answer ≡ true) k f) h)
 
--- ---- sequences of a question and what follows by its answer
-
--- what holds after the question decides what is behind it
-by_answer : (P : State → Type 0) (k : Kind) (q : Production) → ((s : State) (e : Entry) → kind_of e ≡ k → pending e ≡ false → fits (kind_of e) e.answer ≡ true → P (step s e)) →
-    ((ds : List Role) (s : State) (l : List Entry) → EachFits l → Word q ds Ended s l → Sound s → P s → Stood (standing s l)) → Gives (Work k ⨟ q)
-by_answer P k q r g ds s l fit (inl (a, b, e, inl (x, (n, v)), w)) h =
-    let y = fits_of a b (subst EachFits e fit) in
-    subst (λ m. Stood (standing s m)) (sym e)
-    (subst Stood (sym (standing-append a b s)) (g ds (standing s a) b y.1 w (sound_on a s y.0 h) (answered_holds P k r ds n a s y.0 v)))
-by_answer P k q r g ds s l fit (inl (a, b, e, inr (d, x, v), w)) h = absurd (cc)
-by_answer P k q r g ds s l fit (inr (x, w)) h = absurd (cc)
-
--- the same for a kind that is never pending, where an outcome stood before
-by_one_answer : (P : State → Type 0) (k : Kind) (q : Production) → can_wait k ≡ false →
-    ((s : State) (e : Entry) → Stood s → kind_of e ≡ k → fits (kind_of e) e.answer ≡ true → P (step s e)) →
-    ((ds : List Role) (s : State) (l : List Entry) → EachFits l → Word q ds Ended s l → P s → Stood (standing s l)) → Keeps (Work k ⨟ q)
-by_one_answer P k q c r g ds s l fit (inl (a, b, e, inl (x, (n, v)), w)) h =
-    let y = fits_of a b (subst EachFits e fit) in
-    subst (λ m. Stood (standing s m)) (sym e)
-    (subst Stood (sym (standing-append a b s)) (g ds (standing s a) b y.1 w (answered_once P k c r ds n a s y.0 v h)))
-by_one_answer P k q c r g ds s l fit (inl (a, b, e, inr (d, x, v), w)) h = absurd (cc)
-by_one_answer P k q c r g ds s l fit (inr (x, w)) h = absurd (cc)
-
-otherwise : {A B : Type 0} → A ⊎ B → (A → ⊥) → B
-otherwise (inl a) n = absurd (n a)
-otherwise (inr b) n = b
-
-no_choice : (b : Bool) → b ≡ true → b ≡ false → ⊥
-no_choice true e f = grind (arith, f)
-no_choice false e f = grind (arith, e)
-
-unless : {A B : Type 0} → A ⊎ B → (B → ⊥) → A
-unless (inl a) n = a
-unless (inr b) n = absurd (n b)
-
-never_again : (ds : List Role) (s : State) (l : List Entry) → Word Again ds Ended s l → ⊥
-never_again ds s l (e, n) = cc
-
 -- ---- the productions
 
 gives_deserialize : Gives (Work kinds.Deserialize)
 gives_deserialize = leaves_work Stood kinds.Deserialize formed
 
-after_body : (ds : List Role) (s : State) (l : List Entry) → EachFits l → Word (Where body_read (Work kinds.Deserialize) Nothing) ds Ended s l → Sound s → Bodied s → Stood (standing s l)
+after_body : (ds : List Role) (s : State) (l : List Entry) → EachFits l → Word (Where tests.BodyRead (Work kinds.Deserialize) Nothing) ds Ended s l → Sound s → Bodied s → Stood (standing s l)
 after_body ds s l fit w h p =
     (elim (body_read s) as (λ b. body_read s ≡ b → cond b (Word (Work kinds.Deserialize) ds Ended s l) (Word Nothing ds Ended s l) → Stood (standing s l)) [
       | true ↦ λ e v. gives_deserialize ds s l fit v h
       | false ↦ λ e v. keeps_nothing ds s l fit v (otherwise p (λ x. no_choice (body_read s) x e))
     ]) refl w
 
-gives_body : Gives (Work kinds.Body ⨟ Where body_read (Work kinds.Deserialize) Nothing)
-gives_body = by_answer Bodied kinds.Body (Where body_read (Work kinds.Deserialize) Nothing) bodied after_body
+gives_body : Gives (Work kinds.Body ⨟ Where tests.BodyRead (Work kinds.Deserialize) Nothing)
+gives_body = by_answer Bodied kinds.Body (Where tests.BodyRead (Work kinds.Deserialize) Nothing) bodied after_body
 
 -- the response is read where it isn't streaming
 abbrev reading : Production
-reading = Where not_streaming (Work kinds.Body ⨟ Where body_read (Work kinds.Deserialize) Nothing) Nothing
+reading = Where tests.NotStreaming (Work kinds.Body ⨟ Where tests.BodyRead (Work kinds.Deserialize) Nothing) Nothing
 
 after_stream : (ds : List Role) (s : State) (l : List Entry) → EachFits l → Word reading ds Ended s l → Sound s → Streamed s → Stood (standing s l)
 after_stream ds s l fit w h p =
-    (elim (not_streaming s) as (λ b. not_streaming s ≡ b → cond b (Word (Work kinds.Body ⨟ Where body_read (Work kinds.Deserialize) Nothing) ds Ended s l) (Word Nothing ds Ended s l) → Stood (standing s l)) [
+    (elim (not_streaming s) as (λ b. not_streaming s ≡ b → cond b (Word (Work kinds.Body ⨟ Where tests.BodyRead (Work kinds.Deserialize) Nothing) ds Ended s l) (Word Nothing ds Ended s l) → Stood (standing s l)) [
       | true ↦ λ e v. gives_body ds s l fit v h
       | false ↦ λ e v. keeps_nothing ds s l fit v (otherwise p (λ x. no_choice (not_streaming s) x e))
     ]) refl w
@@ -161,8 +108,8 @@ gives_streaming = by_answer Streamed kinds.Stream (reading ⨟ hook hooks.ReadAf
 
 gives_attempt : Gives (attempt stops.None)
 gives_attempt =
-    leaves_after Stood opening (Where failed Nothing (halted (sending ∷ streaming ∷ [])))
-    (gives_halt (halted (sending ∷ streaming ∷ [])) (leaves_after Stood sending (Where failed Nothing streaming) (gives_halt streaming gives_streaming)))
+    leaves_after Stood opening (Where tests.Failed Nothing (halted (sending ∷ streaming ∷ [])))
+    (gives_halt (halted (sending ∷ streaming ∷ [])) (leaves_after Stood sending (Where tests.Failed Nothing streaming) (gives_halt streaming gives_streaming)))
 
 keeps_hook : (h : Hook) → Keeps (hook h)
 keeps_hook h = keeps_work (kinds.Hook h) refl
@@ -175,45 +122,57 @@ keeps_finish = keeps_then (hook hooks.ModifyBeforeCompletion) (hook hooks.ReadAf
 
 -- what follows a Start Retry, and a Decide
 abbrev waiting_again : Production
-waiting_again = Where (started roles.Retry) (Where checkpoint_stands (Work (kinds.Wait roles.Retry) ⨟ Again) Nothing) Nothing
+waiting_again = Where (tests.HasStarted roles.Retry) (Where tests.CheckpointStands (Work (kinds.Wait roles.Retry) ⨟ again) Nothing) Nothing
 
-never_waits_again : (ds : List Role) (s : State) (l : List Entry) → Word (Work (kinds.Wait roles.Retry) ⨟ Again) ds Ended s l → ⊥
-never_waits_again ds s l (inl (a, b, e, v, w)) = never_again ds (standing s a) b w
-never_waits_again ds s l (inr (x, w)) = cc
+gives_waited : Gives (Work (kinds.Wait roles.Retry) ⨟ again)
+gives_waited = leaves_after Stood (Work (kinds.Wait roles.Retry)) again gives_again
 
-after_retry : (ds : List Role) (s : State) (l : List Entry) → EachFits l → Word waiting_again ds Ended s l → Retried s → Stood (standing s l)
-after_retry ds s l fit w p =
+after_retry : (ds : List Role) (s : State) (l : List Entry) → EachFits l → Word waiting_again ds Ended s l → Sound s → Retried s → Stood (standing s l)
+after_retry ds s l fit w h p =
     (elim (started roles.Retry s) as (λ b. started roles.Retry s ≡ b →
-    cond b (cond (checkpoint_stands s) (Word (Work (kinds.Wait roles.Retry) ⨟ Again) ds Ended s l) (Word Nothing ds Ended s l)) (Word Nothing ds Ended s l) → Stood (standing s l)) [
+    cond b (cond (checkpoint_stands s) (Word (Work (kinds.Wait roles.Retry) ⨟ again) ds Ended s l) (Word Nothing ds Ended s l)) (Word Nothing ds Ended s l) → Stood (standing s l)) [
       | true ↦ λ e.
-          elim (checkpoint_stands s) as (λ b. checkpoint_stands s ≡ b → cond b (Word (Work (kinds.Wait roles.Retry) ⨟ Again) ds Ended s l) (Word Nothing ds Ended s l) → Stood (standing s l)) [
-            | true ↦ λ f v. absurd (never_waits_again ds s l v)
+          elim (checkpoint_stands s) as (λ b. checkpoint_stands s ≡ b → cond b (Word (Work (kinds.Wait roles.Retry) ⨟ again) ds Ended s l) (Word Nothing ds Ended s l) → Stood (standing s l)) [
+            | true ↦ λ f v. gives_waited ds s l fit v h
             | false ↦ λ f v. keeps_nothing ds s l fit v (unless p (λ x. no_choice (checkpoint_stands s) x.1 f))
           ] refl
       | false ↦ λ e v. keeps_nothing ds s l fit v (unless p (λ x. no_choice (started roles.Retry s) x.0 e))
     ]) refl w
 
-abbrev going_on : Production
-going_on = Where decided_yes (Where checkpoint_stands Again Nothing) (Where decided_delay (Work (kinds.Start roles.Retry) ⨟ waiting_again) Nothing)
+-- a pause before the operation ends
+abbrev pausing : Production
+pausing = Work (kinds.Start roles.LongPoll) ⨟ Where (tests.HasStarted roles.LongPoll) (Work (kinds.Wait roles.LongPoll)) Nothing
 
-after_decision : (ds : List Role) (s : State) (l : List Entry) → EachFits l → Word going_on ds Ended s l → Decided s → Stood (standing s l)
-after_decision ds s l fit w p =
+keeps_pausing : Keeps pausing
+keeps_pausing =
+    keeps_then (Work (kinds.Start roles.LongPoll)) (Where (tests.HasStarted roles.LongPoll) (Work (kinds.Wait roles.LongPoll)) Nothing) (keeps_work (kinds.Start roles.LongPoll) refl)
+    (keeps_where (tests.HasStarted roles.LongPoll) (Work (kinds.Wait roles.LongPoll)) Nothing (keeps_work (kinds.Wait roles.LongPoll) refl) keeps_nothing)
+
+abbrev retrying : Production
+retrying = Where tests.DecidedDelay (Work (kinds.Start roles.Retry) ⨟ waiting_again) Nothing
+
+keeps_retrying : Keeps retrying
+keeps_retrying = keeps_where tests.DecidedDelay (Work (kinds.Start roles.Retry) ⨟ waiting_again) Nothing (by_one_answer Retried (kinds.Start roles.Retry) waiting_again refl retried after_retry) keeps_nothing
+
+abbrev going_on : Production
+going_on = Where tests.DecidedYes (Where tests.CheckpointStands again Nothing) (Where tests.DecidedNoAfter pausing retrying)
+
+after_decision : (ds : List Role) (s : State) (l : List Entry) → EachFits l → Word going_on ds Ended s l → Sound s → Decided s → Stood (standing s l)
+after_decision ds s l fit w h p =
     (elim (decided_yes s) as (λ b. decided_yes s ≡ b →
-    cond b (cond (checkpoint_stands s) (Word Again ds Ended s l) (Word Nothing ds Ended s l)) (Word (Where decided_delay (Work (kinds.Start roles.Retry) ⨟ waiting_again) Nothing) ds Ended s l) →
+    cond b (cond (checkpoint_stands s) (Word again ds Ended s l) (Word Nothing ds Ended s l)) (Word (Where tests.DecidedNoAfter pausing retrying) ds Ended s l) →
     Stood (standing s l)) [
       | true ↦ λ e.
-          elim (checkpoint_stands s) as (λ b. checkpoint_stands s ≡ b → cond b (Word Again ds Ended s l) (Word Nothing ds Ended s l) → Stood (standing s l)) [
-            | true ↦ λ f v. absurd (never_again ds s l v)
+          elim (checkpoint_stands s) as (λ b. checkpoint_stands s ≡ b → cond b (Word again ds Ended s l) (Word Nothing ds Ended s l) → Stood (standing s l)) [
+            | true ↦ λ f v. gives_again ds s l fit v h
             | false ↦ λ f v. keeps_nothing ds s l fit v (unless p (λ x. no_choice (checkpoint_stands s) x.1 f))
           ] refl
-      | false ↦ λ e v.
-          keeps_where decided_delay (Work (kinds.Start roles.Retry) ⨟ waiting_again) Nothing (by_one_answer Retried (kinds.Start roles.Retry) waiting_again refl retried after_retry) keeps_nothing
-          ds s l fit v (unless p (λ x. no_choice (decided_yes s) x.0 e))
+      | false ↦ λ e v. keeps_where tests.DecidedNoAfter pausing retrying keeps_pausing keeps_retrying ds s l fit v (unless p (λ x. no_choice (decided_yes s) x.0 e))
     ]) refl w
 
 -- an attempt and its completion; the decision, and what follows it
 decided_after_work : (ds : List Role) (s : State) (l : List Entry) → EachFits l → Word (Work kinds.Decide) ds Ended s l → Stood s → Decided (standing s l)
-decided_after_work ds s l fit (inl (x, (n, v))) h = answered_once Decided kinds.Decide refl decided ds n l s fit v h
+decided_after_work ds s l fit (inl (x, (n, v))) h = answered_from Stood Decided kinds.Decide refl decided ds n l s fit v h
 decided_after_work ds s l fit (inr (d, x, v)) h = absurd (cc)
 
 settled_decided : (ds : List Role) (s : State) (l : List Entry) → EachFits l → Word (settle ⨟ Work kinds.Decide) ds Ended s l → Stood s → Decided (standing s l)
@@ -223,7 +182,7 @@ settled_decided ds s l fit (inl (a, b, e, v, w)) h =
 settled_decided ds s l fit (inr (x, w)) h = absurd (cc)
 
 gives_tried : Gives (armed roles.Attempt (InAttempt (attempt stops.None)) Nothing)
-gives_tried = leaves_armed Stood roles.Attempt (InAttempt (attempt stops.None)) Nothing stood_covers refl (gives_in_attempt (attempt stops.None) gives_attempt) keeps_nothing
+gives_tried = from_armed Sound Stood roles.Attempt (InAttempt (attempt stops.None)) Nothing stood_covers refl (carries_sound (arm roles.Attempt)) (gives_in_attempt (attempt stops.None) gives_attempt) keeps_nothing
 
 turn_decided : (ds : List Role) (s : State) (l : List Entry) → EachFits l → Word (turn stops.None) ds Ended s l → Sound s → Decided (standing s l)
 turn_decided ds s l fit (inl (a, b, e, v, w)) h =
@@ -234,77 +193,39 @@ turn_decided ds s l fit (inr (x, w)) h = absurd (cc)
 gives_round : Gives (round stops.None)
 gives_round ds s l fit (inl (a, b, e, v, w)) h =
     let y = fits_of a b (subst EachFits e fit) in
-    joined Stood a b l s e (after_decision ds (standing s a) b y.1 w (turn_decided ds s a y.0 v h))
+    joined Stood a b l s e (after_decision ds (standing s a) b y.1 w (sound_on a s y.0 h) (turn_decided ds s a y.0 v h))
 gives_round ds s l fit (inr (x, w)) h = absurd (cc)
 
 gives_loop : Gives (loop stops.None)
 gives_loop = gives_rounds (round stops.None) (round stops.None) gives_round gives_round
 
--- ---- the grant of the first attempt
+-- ---- the operation
 
-abbrev Gone : State → Type 0
-Gone s = (went s ≡ true) ⊎ Stood s
-
-never_sends_again : (ds : List Role) (s : State) (l : List Entry) → Word (Work (kinds.Wait roles.Send) ⨟ Again) ds Ended s l → ⊥
-never_sends_again ds s l (inl (a, b, e, v, w)) = never_again ds (standing s a) b w
-never_sends_again ds s l (inr (x, w)) = cc
-
-abbrev sending_later : Production
-sending_later = Where (started roles.Send) (Work (kinds.Wait roles.Send) ⨟ Again) Nothing
-
-after_send : (ds : List Role) (s : State) (l : List Entry) → EachFits l → Word sending_later ds Ended s l → Sound s → Sent s → Stood (standing s l)
-after_send ds s l fit w h p =
-    (elim (started roles.Send s) as (λ b. started roles.Send s ≡ b → cond b (Word (Work (kinds.Wait roles.Send) ⨟ Again) ds Ended s l) (Word Nothing ds Ended s l) → Stood (standing s l)) [
-      | true ↦ λ e v. absurd (never_sends_again ds s l v)
-      | false ↦ λ e v. keeps_nothing ds s l fit v (otherwise p (λ x. no_choice (started roles.Send s) x e))
-    ]) refl w
-
-nothing_gone : (ds : List Role) (s : State) (l : List Entry) → Word Nothing ds Ended s l → Gone s → Gone (standing s l)
-nothing_gone ds s l (e, n) g = subst (λ m. Gone (standing s m)) (sym n) g
-
-after_grant : (ds : List Role) (s : State) (l : List Entry) → EachFits l → Word (Where delayed (Work (kinds.Start roles.Send) ⨟ sending_later) Nothing) ds Ended s l → Sound s → Granted s → Gone (standing s l)
-after_grant ds s l fit w h p =
-    (elim (delayed s) as (λ b. delayed s ≡ b → cond b (Word (Work (kinds.Start roles.Send) ⨟ sending_later) ds Ended s l) (Word Nothing ds Ended s l) → Gone (standing s l)) [
-      | true ↦ λ e v. inr (by_answer Sent (kinds.Start roles.Send) sending_later sent after_send ds s l fit v h)
-      | false ↦ λ e v. nothing_gone ds s l v (otherwise p (λ x. no_choice (delayed s) x e))
-    ]) refl w
-
-grant_round_gone : (ds : List Role) (s : State) (l : List Entry) → EachFits l → Word grant_round ds Ended s l → Sound s → Gone (standing s l)
-grant_round_gone ds s l fit (inl (a, b, e, inl (x, (n, v)), w)) h =
-    let y = fits_of a b (subst EachFits e fit) in
-    joined Gone a b l s e (after_grant ds (standing s a) b y.1 w (sound_on a s y.0 h) (answered_holds Granted kinds.Initial granted ds n a s y.0 v))
-grant_round_gone ds s l fit (inl (a, b, e, inr (d, x, v), w)) h = absurd (cc)
-grant_round_gone ds s l fit (inr (x, w)) h = absurd (cc)
-
-grant_rounds_gone : (ds : List Role) (n : ℕ) (s : State) (l : List Entry) → EachFits l → RoundsOf (Word grant_round ds) (Word grant_round ds) n Ended s l → Sound s → Gone (standing s l)
-grant_rounds_gone ds zero s l fit (x, w) h = grant_round_gone ds s l fit w h
-grant_rounds_gone ds (suc n) s l fit (a, b, e, v, w) h =
-    let y = fits_of a b (subst EachFits e fit) in
-    joined Gone a b l s e (grant_rounds_gone ds n (standing s a) b y.1 w (sound_on a s y.0 h))
-
-after_gone : (ds : List Role) (s : State) (l : List Entry) → EachFits l → Word (Where went (loop stops.None) Nothing) ds Ended s l → Sound s → Gone s → Stood (standing s l)
+after_gone : (ds : List Role) (s : State) (l : List Entry) → EachFits l → Word (Where tests.Went (loop stops.None) Nothing) ds Ended s l → Sound s → Gone s → Stood (standing s l)
 after_gone ds s l fit w h p =
     (elim (went s) as (λ b. went s ≡ b → cond b (Word (loop stops.None) ds Ended s l) (Word Nothing ds Ended s l) → Stood (standing s l)) [
       | true ↦ λ e v. gives_loop ds s l fit v h
       | false ↦ λ e v. keeps_nothing ds s l fit v (otherwise p (λ x. no_choice (went s) x e))
     ]) refl w
 
-gives_granted : Gives (grant ⨟ Where went (loop stops.None) Nothing)
-gives_granted ds s l fit (inl (a, b, e, (n, v), w)) h =
+gives_granted : LeavesFrom Fresh Stood (grant ⨟ Where tests.Went (loop stops.None) Nothing)
+gives_granted ds s l fit (inl (a, b, e, v, w)) h =
     let y = fits_of a b (subst EachFits e fit) in
-    joined Stood a b l s e (after_gone ds (standing s a) b y.1 w (sound_on a s y.0 h) (grant_rounds_gone ds n s a y.0 v h))
+    joined Stood a b l s e (after_gone ds (standing s a) b y.1 w (sound_on a s y.0 h.0) (first_granted ds s a y.0 v h))
 gives_granted ds s l fit (inr (x, w)) h = absurd (cc)
 
-gives_op : Gives (op stops.None)
-gives_op = leaves_after Stood front (Where failed Nothing (grant ⨟ Where went (loop stops.None) Nothing)) (gives_halt (grant ⨟ Where went (loop stops.None) Nothing) gives_granted)
+gives_op : LeavesFrom Fresh Stood (op stops.None)
+gives_op =
+    from_after Fresh Stood front (Where tests.Failed Nothing (grant ⨟ Where tests.Went (loop stops.None) Nothing)) (early_fresh.carried front refl)
+    (from_halt Fresh Stood (grant ⨟ Where tests.Went (loop stops.None) Nothing) stood_covers early_fresh.sound gives_granted)
 
 -- ---- the run
 
 keeps_arm : (d : Role) → is_calm (kinds.Start d) ≡ true → Keeps (arm d)
-keeps_arm d c = keeps_where (timeout_stands d) (Work (kinds.Start d)) Nothing (keeps_work (kinds.Start d) c) keeps_nothing
+keeps_arm d c = keeps_where (tests.TimeoutStands d) (Work (kinds.Start d)) Nothing (keeps_work (kinds.Start d) c) keeps_nothing
 
-gives_run : Gives (run stops.None)
-gives_run = leaves_run Stood stops.None stood_covers (keeps_arm roles.Operation refl) keeps_settle keeps_finish gives_op
+gives_run : LeavesFrom Fresh Stood (run stops.None)
+gives_run = leaves_run Fresh Stood stops.None early_fresh stood_covers (keeps_arm roles.Operation refl) keeps_settle keeps_finish gives_op
 
 pub outcome_stands : OutcomeStands
-outcome_stands = behind_whole Stood stops.None gives_run
+outcome_stands = behind_whole Fresh Stood stops.None begins_fresh gives_run

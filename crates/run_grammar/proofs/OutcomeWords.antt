@@ -1,4 +1,7 @@
 -- Words of the grammar, and what holds behind them: that an outcome stands, or what one covers.
+use Rattle.run_grammar.specs.declared.production.Test.{Test}
+use Rattle.run_grammar.specs.Tests.{holds}
+use Rattle.run_grammar.specs.declared.production.Test.TheVariants as tests
 use Rattle.std.proofs.Common.{Bool, true, false, cond, zero, suc, ℕ, List, [], ◌∷◌, ◌++◌, ◌≡◌, refl, sym, ap, ◌∙◌, subst, inl, inr, arith}
 use Rattle.run_grammar.specs.declared.kind.Role.{Role}
 use Rattle.run_grammar.specs.declared.kind.Role.TheVariants as roles
@@ -12,7 +15,7 @@ use Rattle.run_grammar.specs.Change.{changed}
 use Rattle.run_grammar.specs.Standing.{State, standing, step}
 use Rattle.run_grammar.specs.Production.{Production, Nothing, Work, ◌⨟◌, Where, Rounds, Again, InAttempt, Under, End, Ended, Further, CutBy}
 use Rattle.run_grammar.specs.Words.{Word, WaitsOf, Struck, Idle, AfterIdles, Answered, CutOnce, RoundsOf, marked}
-use Rattle.run_grammar.specs.Grammar.{failed}
+use Rattle.run_grammar.specs.Tests.{failed}
 use Rattle.run_grammar.specs.Laws.{EachFits}
 use Rattle.run_grammar.proofs.Spots.{standing-append}
 use Rattle.run_grammar.proofs.Paths.{fits_of}
@@ -44,25 +47,37 @@ of_kind_calm e k h c = subst (λ j. is_calm j ≡ true) (sym h) c
 
 -- ---- a question that is asked again and again
 
-waits_stand : (ds : List Role) (l : List Entry) (s : State) → EachFits l → WaitsOf ds l → Stood s → Stood (standing s l)
-waits_stand [] [] s f w h = absurd w
-waits_stand (d ∷ ds) [] s f w h = absurd w
-waits_stand [] (e ∷ l) s (f, g) (k, n) h =
-    subst (λ m. Stood (standing (step s e) m)) (sym n) (calm_step s e (of_kind_calm e kinds.Park k refl) f h)
-waits_stand (d ∷ ds) (e ∷ l) s (f, g) (k, p, w) h = waits_stand ds l (step s e) g w (calm_step s e (of_kind_calm e (kinds.Wait d) k refl) f h)
+-- what every entry of such a kind keeps; Park and the Waits are such
+abbrev pub EachKeeps : (State → Type 0) → (Kind → Bool) → Type 0
+EachKeeps P of_kind = (s : State) (e : Entry) → of_kind (kind_of e) ≡ true → fits (kind_of e) e.answer ≡ true → P s → P (step s e)
 
-idle_stands : (k : Kind) (ds : List Role) (l : List Entry) (s : State) → is_calm k ≡ true → EachFits l → Idle k ds l → Stood s → Stood (standing s l)
-idle_stands k ds [] s c f w h = absurd w
-idle_stands k ds (e ∷ l) s c (f, g) (j, p, w) h = waits_stand ds l (step s e) g w (calm_step s e (of_kind_calm e k j c) f h)
+so_kind : (of_kind : Kind → Bool) (e : Entry) (k : Kind) → kind_of e ≡ k → of_kind k ≡ true → of_kind (kind_of e) ≡ true
+so_kind of_kind e k h c = subst (λ j. of_kind j ≡ true) (sym h) c
+
+waits_keep : (P : State → Type 0) (of_kind : Kind → Bool) → of_kind kinds.Park ≡ true → ((d : Role) → of_kind (kinds.Wait d) ≡ true) → EachKeeps P of_kind →
+    (ds : List Role) (l : List Entry) (s : State) → EachFits l → WaitsOf ds l → P s → P (standing s l)
+waits_keep P of_kind i j k [] [] s f w h = absurd w
+waits_keep P of_kind i j k (d ∷ ds) [] s f w h = absurd w
+waits_keep P of_kind i j k [] (e ∷ l) s (f, g) (o, n) h = subst (λ m. P (standing (step s e) m)) (sym n) (k s e (so_kind of_kind e kinds.Park o i) f h)
+waits_keep P of_kind i j k (d ∷ ds) (e ∷ l) s (f, g) (o, p, w) h = waits_keep P of_kind i j k ds l (step s e) g w (k s e (so_kind of_kind e (kinds.Wait d) o (j d)) f h)
+
+idle_keeps : (P : State → Type 0) (of_kind : Kind → Bool) → of_kind kinds.Park ≡ true → ((d : Role) → of_kind (kinds.Wait d) ≡ true) → EachKeeps P of_kind →
+    (q : Kind) (ds : List Role) (l : List Entry) (s : State) → of_kind q ≡ true → EachFits l → Idle q ds l → P s → P (standing s l)
+idle_keeps P of_kind i j k q ds [] s c f w h = absurd w
+idle_keeps P of_kind i j k q ds (e ∷ l) s c (f, g) (o, p, w) h = waits_keep P of_kind i j k ds l (step s e) g w (k s e (so_kind of_kind e q o c) f h)
+
+pub worked_keeps : (P : State → Type 0) (of_kind : Kind → Bool) → of_kind kinds.Park ≡ true → ((d : Role) → of_kind (kinds.Wait d) ≡ true) → EachKeeps P of_kind →
+    (q : Kind) (ds : List Role) (n : ℕ) (l : List Entry) (s : State) → of_kind q ≡ true → EachFits l → AfterIdles q ds (Answered q) n l → P s → P (standing s l)
+worked_keeps P of_kind i j k q ds zero l s c f (e, n, o, p) h =
+    let g = subst EachFits n f in
+    subst (λ m. P (standing s m)) (sym n) (k s e (so_kind of_kind e q o c) g.0 h)
+worked_keeps P of_kind i j k q ds (suc n) l s c f (a, b, e, x, w) h =
+    let g = fits_of a b (subst EachFits e f) in
+    subst (λ m. P (standing s m)) (sym e)
+    (subst P (sym (standing-append a b s)) (worked_keeps P of_kind i j k q ds n b (standing s a) c g.1 w (idle_keeps P of_kind i j k q ds a s c g.0 x h)))
 
 worked_stands : (k : Kind) (ds : List Role) (n : ℕ) (l : List Entry) (s : State) → is_calm k ≡ true → EachFits l → AfterIdles k ds (Answered k) n l → Stood s → Stood (standing s l)
-worked_stands k ds zero l s c f (e, n, j, p) h =
-    let g = subst EachFits n f in
-    subst (λ m. Stood (standing s m)) (sym n) (calm_step s e (of_kind_calm e k j c) g.0 h)
-worked_stands k ds (suc n) l s c f (a, b, e, i, w) h =
-    let g = fits_of a b (subst EachFits e f) in
-    subst (λ m. Stood (standing s m)) (sym e)
-    (subst Stood (sym (standing-append a b s)) (worked_stands k ds n b (standing s a) c g.1 w (idle_stands k ds a s c g.0 i h)))
+worked_stands k ds n l s c f w h = worked_keeps Stood is_calm refl (λ d. refl) calm_step k ds n l s c f w h
 
 -- what holds after every answer of the kind holds after the question
 pub answered_holds : (P : State → Type 0) (k : Kind) → ((s : State) (e : Entry) → kind_of e ≡ k → pending e ≡ false → fits (kind_of e) e.answer ≡ true → P (step s e)) →
@@ -80,14 +95,14 @@ unfolding pending
 never_idle k ds [] c w = w
 never_idle k ds (e ∷ l) c (j, p, w) = grind (arith, c, j, p)
 
--- and where the kind is never pending, what stood before is known too
-pub answered_once : (P : State → Type 0) (k : Kind) → can_wait k ≡ false →
-    ((s : State) (e : Entry) → Stood s → kind_of e ≡ k → fits (kind_of e) e.answer ≡ true → P (step s e)) →
-    (ds : List Role) (n : ℕ) (l : List Entry) (s : State) → EachFits l → AfterIdles k ds (Answered k) n l → Stood s → P (standing s l)
-answered_once P k c q ds zero l s f (e, n, j, p) h =
+-- and where the kind is never pending, what held before is known too
+pub answered_from : (Q P : State → Type 0) (k : Kind) → can_wait k ≡ false →
+    ((s : State) (e : Entry) → Q s → kind_of e ≡ k → fits (kind_of e) e.answer ≡ true → P (step s e)) →
+    (ds : List Role) (n : ℕ) (l : List Entry) (s : State) → EachFits l → AfterIdles k ds (Answered k) n l → Q s → P (standing s l)
+answered_from Q P k c q ds zero l s f (e, n, j, p) h =
     let g = subst EachFits n f in
     subst (λ m. P (standing s m)) (sym n) (q s e h j g.0)
-answered_once P k c q ds (suc n) l s f (a, b, e, i, w) h = absurd (never_idle k ds a c i)
+answered_from Q P k c q ds (suc n) l s f (a, b, e, i, w) h = absurd (never_idle k ds a c i)
 
 -- ---- a cut leaves its timeout
 
@@ -164,7 +179,7 @@ cut_stands (Work k) ds d i s l h f (inr (c, e, (n, w))) = cut_work k d ds n l s 
 cut_stands (p ⨟ q) ds d i s l h f (inl (a, b, e, v, w)) = joined Stood a b l s e (cut_stands q ds d i (standing s a) b h (fits_of a b (subst EachFits e f)).1 w)
 cut_stands (p ⨟ q) ds d i s l h f (inr (x, w)) = cut_stands p ds d i s l h f w
 cut_stands (Where test p q) ds d i s l h f w =
-    (elim (test s) as (λ b. cond b (Word p ds (CutBy d i) s l) (Word q ds (CutBy d i) s l) → Stood (standing s l)) [
+    (elim (holds test s) as (λ b. cond b (Word p ds (CutBy d i) s l) (Word q ds (CutBy d i) s l) → Stood (standing s l)) [
       | true ↦ λ v. cut_stands p ds d i s l h f v
       | false ↦ λ v. cut_stands q ds d i s l h f v
     ]) w
@@ -192,9 +207,16 @@ cut_stands (Under c p q) ds d i s l h f (a, b, CutBy g j, e, v, w) =
 abbrev pub Carries : (State → Type 0) → Production → Type 0
 Carries P p = (ds : List Role) (s : State) (l : List Entry) → EachFits l → Word p ds Ended s l → P s → P (standing s l)
 
+-- it holds behind every word of the production that begins where S holds
+abbrev pub LeavesFrom : (S P : State → Type 0) → Production → Type 0
+LeavesFrom S P p = (ds : List Role) (s : State) (l : List Entry) → EachFits l → Word p ds Ended s l → S s → P (standing s l)
+
 -- it holds behind every word of the production
 abbrev pub Leaves : (State → Type 0) → Production → Type 0
-Leaves P p = (ds : List Role) (s : State) (l : List Entry) → EachFits l → Word p ds Ended s l → Sound s → P (standing s l)
+Leaves P p = LeavesFrom Sound P p
+
+pub carries_sound : (p : Production) → Carries Sound p
+carries_sound p ds s l f w h = sound_on l s f h
 
 -- an outcome that stands is enough
 abbrev pub Covers : (State → Type 0) → Type 0
@@ -213,48 +235,58 @@ pub leaves_work : (P : State → Type 0) (k : Kind) → ((s : State) (e : Entry)
 leaves_work P k q ds s l fit (inl (x, (n, v))) h = answered_holds P k q ds n l s fit v
 leaves_work P k q ds s l fit (inr (d, x, v)) h = absurd (cc)
 
-pub leaves_then : (P : State → Type 0) (p q : Production) → Leaves P p → Carries P q → Leaves P (p ⨟ q)
-leaves_then P p q f g ds s l fit (inl (a, b, e, v, w)) h =
+pub from_then : (S P : State → Type 0) (p q : Production) → LeavesFrom S P p → Carries P q → LeavesFrom S P (p ⨟ q)
+from_then S P p q f g ds s l fit (inl (a, b, e, v, w)) h =
     let x = fits_of a b (subst EachFits e fit) in
     joined P a b l s e (g ds (standing s a) b x.1 w (f ds s a x.0 v h))
-leaves_then P p q f g ds s l fit (inr (x, w)) h = absurd (cc)
+from_then S P p q f g ds s l fit (inr (x, w)) h = absurd (cc)
 
--- what is behind a production leaves it, whatever that does
-pub leaves_after : (P : State → Type 0) (p q : Production) → Leaves P q → Leaves P (p ⨟ q)
-leaves_after P p q g ds s l fit (inl (a, b, e, v, w)) h =
+-- what is behind a production leaves it, where the production carries S
+pub from_after : (S P : State → Type 0) (p q : Production) → Carries S p → LeavesFrom S P q → LeavesFrom S P (p ⨟ q)
+from_after S P p q c g ds s l fit (inl (a, b, e, v, w)) h =
     let x = fits_of a b (subst EachFits e fit) in
-    joined P a b l s e (g ds (standing s a) b x.1 w (sound_on a s x.0 h))
-leaves_after P p q g ds s l fit (inr (x, w)) h = absurd (cc)
+    joined P a b l s e (g ds (standing s a) b x.1 w (c ds s a x.0 v h))
+from_after S P p q c g ds s l fit (inr (x, w)) h = absurd (cc)
 
-pub leaves_where : (P : State → Type 0) (t : State → Bool) (p q : Production) → Leaves P p → Leaves P q → Leaves P (Where t p q)
-leaves_where P t p q f g ds s l fit w h =
-    (elim (t s) as (λ b. cond b (Word p ds Ended s l) (Word q ds Ended s l) → P (standing s l)) [
+pub from_where : (S P : State → Type 0) (t : Test) (p q : Production) → LeavesFrom S P p → LeavesFrom S P q → LeavesFrom S P (Where t p q)
+from_where S P t p q f g ds s l fit w h =
+    (elim (holds t s) as (λ b. cond b (Word p ds Ended s l) (Word q ds Ended s l) → P (standing s l)) [
       | true ↦ λ v. f ds s l fit v h
       | false ↦ λ v. g ds s l fit v h
     ]) w
 
 -- where the test holds only if it holds already
-pub leaves_unless : (P : State → Type 0) (t : State → Bool) (p q : Production) → ((s : State) → Sound s → t s ≡ true → P s) → Carries P p → Leaves P q → Leaves P (Where t p q)
-leaves_unless P t p q n f g ds s l fit w h =
-    (elim (t s) as (λ b. t s ≡ b → cond b (Word p ds Ended s l) (Word q ds Ended s l) → P (standing s l)) [
+pub from_unless : (S P : State → Type 0) (t : Test) (p q : Production) → ((s : State) → S s → holds t s ≡ true → P s) → Carries P p → LeavesFrom S P q → LeavesFrom S P (Where t p q)
+from_unless S P t p q n f g ds s l fit w h =
+    (elim (holds t s) as (λ b. holds t s ≡ b → cond b (Word p ds Ended s l) (Word q ds Ended s l) → P (standing s l)) [
       | true ↦ λ e v. f ds s l fit v (n s h e)
       | false ↦ λ e v. g ds s l fit v h
     ]) refl w
 
-pub leaves_halt : (P : State → Type 0) (q : Production) → Covers P → Leaves P q → Leaves P (Where failed Nothing q)
-leaves_halt P q c g = leaves_unless P failed Nothing q (λ s h e. c s (h e)) (carries_nothing P) g
+pub from_halt : (S P : State → Type 0) (q : Production) → Covers P → ((s : State) → S s → Sound s) → LeavesFrom S P q → LeavesFrom S P (Where tests.Failed Nothing q)
+from_halt S P q c d g = from_unless S P tests.Failed Nothing q (λ s h e. c s (d s h e)) (carries_nothing P) g
+
+pub leaves_then : (P : State → Type 0) (p q : Production) → Leaves P p → Carries P q → Leaves P (p ⨟ q)
+leaves_then P p q f g = from_then Sound P p q f g
+
+-- what is behind a production leaves it, whatever that does
+pub leaves_after : (P : State → Type 0) (p q : Production) → Leaves P q → Leaves P (p ⨟ q)
+leaves_after P p q g = from_after Sound P p q (carries_sound p) g
+
+pub leaves_halt : (P : State → Type 0) (q : Production) → Covers P → Leaves P q → Leaves P (Where tests.Failed Nothing q)
+leaves_halt P q c g = from_halt Sound P q c (λ s h. h) g
 
 is_deadline_of : (c d : Role) → is_deadline c ≡ true → same_role c d ≡ true → is_deadline d ≡ true
 is_deadline_of roles.Operation roles.Operation h e = refl
 is_deadline_of roles.Attempt roles.Attempt h e = refl
 is_deadline_of _ _ h e = absurd (cc)
 
-pub leaves_under : (P : State → Type 0) (c : Role) (p q : Production) → Covers P → is_deadline c ≡ true → Leaves P p → Carries P q → Leaves P (Under c p q)
-leaves_under P c p q o i f g ds s l fit (a, b, Ended, e, v, (x, n)) h =
+pub from_under : (S P : State → Type 0) (c : Role) (p q : Production) → Covers P → is_deadline c ≡ true → LeavesFrom S P p → Carries P q → LeavesFrom S P (Under c p q)
+from_under S P c p q o i f g ds s l fit (a, b, Ended, e, v, (x, n)) h =
     let y = fits_of a b (subst EachFits e fit) in
     joined P a b l s e (subst (λ m. P (standing (standing s a) m)) (sym n) (f (c ∷ ds) s a y.0 v h))
-leaves_under P c p q o i f g ds s l fit (a, b, Further, e, v, (x, n)) h = absurd (cc)
-leaves_under P c p q o i f g ds s l fit (a, b, CutBy d j, e, v, w) h =
+from_under S P c p q o i f g ds s l fit (a, b, Further, e, v, (x, n)) h = absurd (cc)
+from_under S P c p q o i f g ds s l fit (a, b, CutBy d j, e, v, w) h =
     let y = fits_of a b (subst EachFits e fit) in
     (elim (same_role c d) as (λ t. same_role c d ≡ t → cond t (cond j (Word q ds Ended (standing s a) b) ((Ended ≡ Ended) × (b ≡ []))) ((Ended ≡ CutBy d j) × (b ≡ [])) → P (standing s l)) [
       | true ↦ λ t.
@@ -287,14 +319,14 @@ keeps_work k c ds s l f (inr (d, e, w)) h = absurd (cc)
 pub keeps_then : (p q : Production) → Keeps p → Keeps q → Keeps (p ⨟ q)
 keeps_then p q f g = carries_then Stood p q f g
 
-pub keeps_where : (t : State → Bool) (p q : Production) → Keeps p → Keeps q → Keeps (Where t p q)
+pub keeps_where : (t : Test) (p q : Production) → Keeps p → Keeps q → Keeps (Where t p q)
 keeps_where t p q f g ds s l fit w h =
-    (elim (t s) as (λ b. cond b (Word p ds Ended s l) (Word q ds Ended s l) → Stood (standing s l)) [
+    (elim (holds t s) as (λ b. cond b (Word p ds Ended s l) (Word q ds Ended s l) → Stood (standing s l)) [
       | true ↦ λ v. f ds s l fit v h
       | false ↦ λ v. g ds s l fit v h
     ]) w
 
-pub gives_halt : (q : Production) → Gives q → Gives (Where failed Nothing q)
+pub gives_halt : (q : Production) → Gives q → Gives (Where tests.Failed Nothing q)
 gives_halt q g = leaves_halt Stood q stood_covers g
 
 marked_ended : (y : End) → Ended ≡ marked y → y ≡ Ended

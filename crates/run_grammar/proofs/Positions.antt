@@ -1,4 +1,5 @@
 -- What is left to come at a position, and that it moves as the machine does.
+use Rattle.run_grammar.specs.Tests.{holds}
 use Rattle.std.proofs.Common.{Bool, true, false, cond, List, [], ◌∷◌, ◌++◌, ◌≡◌, ◌⊎◌, refl}
 use Rattle.run_grammar.specs.declared.kind.Role.{Role}
 use Rattle.run_grammar.specs.declared.kind.Kind.{Kind}
@@ -70,7 +71,7 @@ fine_first Again f ds s = tt
 fine_first (Work k) f ds s = tt
 fine_first (p ⨟ q) f ds s = fine_then (first p ds s) (first q ds s) q (fine_first p f.0 ds s) (fine_first q f.1 ds s) f.1
 fine_first (Where test p q) f ds s =
-    elim (test s) as (λ b. FineSpot (cond b (first p ds s) (first q ds s))) [ true ↦ fine_first p f.0 ds s | false ↦ fine_first q f.1 ds s ]
+    elim (holds test s) as (λ b. FineSpot (cond b (first p ds s) (first q ds s))) [ true ↦ fine_first p f.0 ds s | false ↦ fine_first q f.1 ds s ]
 fine_first (Rounds p q) f ds s = fine_round (first p ds s) (first q ds s) q (fine_first p f.0 ds s) (fine_first q f.1 ds s) f.1 f.2
 fine_first (InAttempt p) f ds s = fine_within (first p ds s) (fine_first p f ds s)
 fine_first (Under c p q) f ds s = fine_under c (first p (c ∷ ds) s) q (fine_first p f.0 (c ∷ ds) s) f.1

@@ -1,5 +1,6 @@
 -- At the end of a whole run a request or an outcome stands.
-use Rattle.std.proofs.Common.{true, false, List, [], ◌∷◌, ◌≡◌, sym, subst, inr}
+use Rattle.run_grammar.specs.declared.production.Test.TheVariants as tests
+use Rattle.std.proofs.Common.{true, false, List, [], ◌∷◌, ◌≡◌, refl, sym, subst, inr}
 use Rattle.smithy_types.specs.declared.hook.Hook.TheVariants as hooks
 use Rattle.smithy_types.specs.declared.kinds.StopPoint.{StopPoint}
 use Rattle.run_grammar.specs.declared.kind.Role.TheVariants as roles
@@ -9,13 +10,14 @@ use Rattle.run_grammar.specs.Entry.{kind_of, pending}
 use Rattle.run_grammar.specs.Question.{nanos_of}
 use Rattle.run_grammar.specs.Fits.{fits}
 use Rattle.run_grammar.specs.Change.{changed}
-use Rattle.run_grammar.specs.Standing.{State, standing, step}
+use Rattle.run_grammar.specs.Standing.{State, standing, start, step}
 use Rattle.run_grammar.specs.Production.{Production, Nothing, Work, ◌⨟◌, Where}
-use Rattle.run_grammar.specs.Grammar.{failed, load_body, went, hook, halted, arm, settle, loop, front, grant, op, finish, run}
+use Rattle.run_grammar.specs.Grammar.{hook, halted, arm, settle, loop, front, grant, op, finish, run}
+use Rattle.run_grammar.specs.Tests.{failed, load_body, went}
 use Rattle.run_grammar.specs.Outcomes.{RequestOrOutcomeStands}
 use Rattle.run_grammar.proofs.Requests.{HasEither, serialized, either_stands}
-use Rattle.run_grammar.proofs.OutcomeWords.{Carries, Leaves, Covers, leaves_work, leaves_then, leaves_after, leaves_halt}
-use Rattle.run_grammar.proofs.RunLeaves.{behind_whole, leaves_run}
+use Rattle.run_grammar.proofs.OutcomeWords.{Sound, Carries, Leaves, Covers, leaves_work, leaves_then, leaves_after, leaves_halt}
+use Rattle.run_grammar.proofs.RunLeaves.{begins_sound, behind_whole, early_sound, leaves_run}
 
 abbrev EitherStood : State → Type 0
 EitherStood s = HasEither s.context
@@ -46,32 +48,32 @@ after_serialization s e k p f =
 
 -- the front from its serialization on, and from the hook before
 abbrev loading : Production
-loading = halted (Where load_body (Work kinds.Load) Nothing ∷ hook hooks.ReadAfterSerialization ∷ hook hooks.ModifyBeforeRetryLoop ∷ [])
+loading = halted (Where tests.LoadBody (Work kinds.Load) Nothing ∷ hook hooks.ReadAfterSerialization ∷ hook hooks.ModifyBeforeRetryLoop ∷ [])
 
 abbrev serializing : Production
-serializing = Work kinds.Serialize ⨟ Where failed Nothing loading
+serializing = Work kinds.Serialize ⨟ Where tests.Failed Nothing loading
 
 abbrev reading : Production
-reading = hook hooks.ReadBeforeSerialization ⨟ Where failed Nothing serializing
+reading = hook hooks.ReadBeforeSerialization ⨟ Where tests.Failed Nothing serializing
 
 leaves_serializing : Leaves EitherStood serializing
-leaves_serializing = leaves_then EitherStood (Work kinds.Serialize) (Where failed Nothing loading) (leaves_work EitherStood kinds.Serialize after_serialization) (carries (Where failed Nothing loading))
+leaves_serializing = leaves_then EitherStood (Work kinds.Serialize) (Where tests.Failed Nothing loading) (leaves_work EitherStood kinds.Serialize after_serialization) (carries (Where tests.Failed Nothing loading))
 
 leaves_reading : Leaves EitherStood reading
-leaves_reading = leaves_after EitherStood (hook hooks.ReadBeforeSerialization) (Where failed Nothing serializing) (leaves_halt EitherStood serializing outcome_covers leaves_serializing)
+leaves_reading = leaves_after EitherStood (hook hooks.ReadBeforeSerialization) (Where tests.Failed Nothing serializing) (leaves_halt EitherStood serializing outcome_covers leaves_serializing)
 
 leaves_front : Leaves EitherStood front
-leaves_front = leaves_after EitherStood (hook hooks.ModifyBeforeSerialization) (Where failed Nothing reading) (leaves_halt EitherStood reading outcome_covers leaves_reading)
+leaves_front = leaves_after EitherStood (hook hooks.ModifyBeforeSerialization) (Where tests.Failed Nothing reading) (leaves_halt EitherStood reading outcome_covers leaves_reading)
 
 leaves_op : (stop : StopPoint) → Leaves EitherStood (op stop)
 leaves_op stop =
-    let behind = Where failed Nothing (grant ⨟ Where went (loop stop) Nothing) in
+    let behind = Where tests.Failed Nothing (grant ⨟ Where tests.Went (loop stop) Nothing) in
     leaves_then EitherStood front behind leaves_front (carries behind)
 
 -- ---- the run
 
 leaves_either : (stop : StopPoint) → Leaves EitherStood (run stop)
-leaves_either stop = leaves_run EitherStood stop outcome_covers (carries (arm roles.Operation)) (carries settle) (carries finish) (leaves_op stop)
+leaves_either stop = leaves_run Sound EitherStood stop early_sound outcome_covers (carries (arm roles.Operation)) (carries settle) (carries finish) (leaves_op stop)
 
 pub request_or_outcome_stands : RequestOrOutcomeStands
-request_or_outcome_stands stop p l w = behind_whole EitherStood stop (leaves_either stop) p l w
+request_or_outcome_stands stop p l w = behind_whole Sound EitherStood stop (λ q. begins_sound (start q) refl) (leaves_either stop) p l w

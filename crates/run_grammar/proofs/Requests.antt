@@ -1,5 +1,6 @@
 -- One entry, and whether a request or an outcome stands.
 use Rattle.std.proofs.Common.{true, ℕ, Option, None, Some, is_some, List, ◌≡◌, ◌⊎◌, refl, sym, subst, inl, inr}
+use Rattle.smithy_types.specs.declared.fault.FaultKind.TheVariants as faults
 use Rattle.smithy_types.specs.declared.hook.Hook.{Hook}
 use Rattle.smithy_types.specs.declared.http.HttpRequest.{HttpRequest}
 use Rattle.smithy_context.specs.declared.intercept.Change.{Change}
@@ -18,7 +19,7 @@ use Rattle.run_grammar.specs.declared.answer.Answer.TheVariants as answers
 use Rattle.run_grammar.specs.declared.standing.Standing.{Standing}
 use Rattle.run_grammar.specs.Writes.{writes_input, writes_request, writes_response, writes_outcome}
 use Rattle.run_grammar.specs.Fits.{fits, fits_request}
-use Rattle.run_grammar.specs.Change.{changed, or_fails, on_configure, on_hook, on_serialize, on_load, on_initial, on_start, on_wait, on_choose, on_endpoint, on_request, on_transmit, on_stream, on_body, on_deserialize, on_decide, rewound_to, written_by, merged_into, hook_failed, with_body, with_outcome, with_input, with_request, with_response, with_phase, serializing, loads_body}
+use Rattle.run_grammar.specs.Change.{changed, fails_with, granted, is_unbegun, refused_text, or_fails, on_configure, on_hook, on_serialize, on_load, on_initial, on_start, on_wait, on_choose, on_endpoint, on_request, on_transmit, on_stream, on_body, on_deserialize, on_decide, rewound_to, written_by, merged_into, hook_failed, with_body, with_outcome, with_input, with_request, with_response, with_phase, serializing, loads_body}
 use Rattle.run_grammar.proofs.Outcomes.{Has, either_way}
 
 -- a request stands
@@ -93,8 +94,8 @@ after_load s (answers.Loaded b) h = after_loaded s b h
 after_load s a h = on_or_fails s a h
 
 after_initial : (s : Standing) (a : Answer) → HasEither s → HasEither (on_initial s a)
-after_initial s answers.Go h = h
-after_initial s answers.No h = inr refl
+after_initial s answers.Go h = either_way HasEither (is_unbegun s) (granted s) s h h
+after_initial s answers.No h = either_way HasEither (is_unbegun s) (fails_with s faults.Other refused_text) s (inr refl) h
 after_initial s (answers.Delay n) h = h
 after_initial s a h = on_or_fails s a h
 
@@ -148,6 +149,7 @@ after_deserialize s _ h = h
 after_decide : (s : Standing) (a : Answer) → HasEither s → HasEither (on_decide s a)
 after_decide s (answers.Decided choices.Yes n) h = after_rewind s.context.checkpoint s refl h
 after_decide s (answers.Decided choices.No n) h = h
+after_decide s (answers.Decided (choices.NoAfter d) n) h = h
 after_decide s (answers.Decided (choices.Delay d) n) h = h
 after_decide s a h = on_or_fails s a h
 

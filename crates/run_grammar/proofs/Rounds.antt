@@ -1,4 +1,5 @@
 -- Each round of the grammar asks something.
+use Rattle.run_grammar.specs.declared.production.Test.TheVariants as tests
 use Rattle.std.proofs.Common.{Bool, true, false, cond, List, ◌∷◌, ◌≡◌, refl}
 use Rattle.run_grammar.specs.declared.kind.Role.{Role}
 use Rattle.smithy_types.specs.declared.kinds.StopPoint.{StopPoint}
@@ -6,7 +7,8 @@ use Rattle.run_grammar.specs.declared.kind.Kind.TheVariants.{Start}
 use Rattle.run_grammar.specs.declared.kind.Role.TheVariants.{Attempt, Operation}
 use Rattle.smithy_types.specs.declared.kinds.StopPoint.TheVariants as stops
 use Rattle.run_grammar.specs.Standing.{State}
-use Rattle.run_grammar.specs.Grammar.{run, op, loop, round, turn, attempt, armed, arm, timeout_stands, started, grant, grant_round, front, settle, finish}
+use Rattle.run_grammar.specs.Grammar.{run, op, loop, again, round, turn, attempt, armed, arm, grant, grant_round, front, settle, finish}
+use Rattle.run_grammar.specs.Tests.{timeout_stands, started}
 use Rattle.run_grammar.specs.Production.{Production, Nothing, Work, ◌⨟◌, Where, Rounds, Again, InAttempt, Under}
 use Rattle.run_grammar.specs.Machine.{Spot, AtEnd, AtAgain, At, first, then_spot, under_spot}
 use Rattle.run_grammar.proofs.Spots.{IsAt, Fine}
@@ -48,7 +50,7 @@ under_at d (At k es r) q a = tt
 
 armed_at : (d : Role) (p after : Production) (ds : List Role) (s : State) → ((es : List Role) → IsAt (first p es s)) → IsAt (first (armed d p after) ds s)
 armed_at d p after ds s f =
-    elim (timeout_stands d s) as (λ b. IsAt (then_spot (cond b (At (Start d) ds Nothing) AtEnd) (Where (started d) (Under d p after) p) (cond (started d s) (under_spot d (first p (d ∷ ds) s) after) (first p ds s)))) [
+    elim (timeout_stands d s) as (λ b. IsAt (then_spot (cond b (At (Start d) ds Nothing) AtEnd) (Where (tests.HasStarted d) (Under d p after) p) (cond (started d s) (under_spot d (first p (d ∷ ds) s) after) (first p ds s)))) [
       | true ↦ tt
       | false ↦ elim (started d s) as (λ c. IsAt (cond c (under_spot d (first p (d ∷ ds) s) after) (first p ds s))) [ true ↦ under_at d (first p (d ∷ ds) s) after (f (d ∷ ds)) | false ↦ f ds ]
     ]
@@ -64,15 +66,22 @@ pub attempt_plain : (stop : StopPoint) → plain (attempt stop) ≡ true
 attempt_plain stops.None = refl
 attempt_plain stops.BeforeTransmit = refl
 
-pub round_plain : (stop : StopPoint) → plain (round stop) ≡ true
-round_plain stops.None = refl
-round_plain stops.BeforeTransmit = refl
-
-pub fine_loop : (stop : StopPoint) → Fine (loop stop)
-fine_loop stop = let f = plain_fine (round stop) (round_plain stop) in (f, f, λ ds s. round_at stop ds s)
+-- the turn has no Rounds in it
+pub turn_plain : (stop : StopPoint) → plain (turn stop) ≡ true
+turn_plain stops.None = refl
+turn_plain stops.BeforeTransmit = refl
 
 pub fine_grant : Fine grant
 fine_grant = let f = plain_fine grant_round refl in (f, f, λ ds s. tt)
+
+fine_again : Fine again
+fine_again = ((fine_grant, (tt, tt)), tt)
+
+fine_round : (stop : StopPoint) → Fine (round stop)
+fine_round stop = (plain_fine (turn stop) (turn_plain stop), ((fine_again, tt), ((tt, (tt, tt)), ((tt, (((tt, fine_again), tt), tt)), tt))))
+
+pub fine_loop : (stop : StopPoint) → Fine (loop stop)
+fine_loop stop = let f = fine_round stop in (f, f, λ ds s. round_at stop ds s)
 
 pub fine_op : (stop : StopPoint) → Fine (op stop)
 fine_op stop = (plain_fine front refl, (tt, (fine_grant, (fine_loop stop, tt))))

@@ -1,4 +1,5 @@
 -- What every word of the operation leaves, every whole run leaves.
+use Rattle.run_grammar.specs.declared.production.Test.TheVariants as tests
 use Rattle.std.proofs.Common.{true, Option, None, Some, is_some, List, [], ◌≡◌, refl, arith}
 use Rattle.smithy_types.specs.declared.fault.Outcome.{Outcome}
 use Rattle.smithy_types.specs.declared.fault.Outcome.TheVariants as outcomes
@@ -13,13 +14,16 @@ use Rattle.run_grammar.specs.declared.kind.Kind.TheVariants as kinds
 use Rattle.run_grammar.specs.declared.answer.Entry.{Entry}
 use Rattle.run_grammar.specs.Standing.{State, standing, start}
 use Rattle.run_grammar.specs.Production.{Production, Nothing, Work, ◌⨟◌, Where, Under}
-use Rattle.run_grammar.specs.Grammar.{failed, started, failure_stands, hook, arm, armed, settle, op, finish, configured, run}
+use Rattle.run_grammar.specs.Grammar.{hook, arm, armed, settle, op, finish, configured, run}
+use Rattle.run_grammar.specs.Tests.{failed, started, failure_stands}
 use Rattle.run_grammar.specs.Laws.{IsWhole}
 use Rattle.run_grammar.proofs.Outcomes.{is_deadline}
-use Rattle.run_grammar.proofs.OutcomeWords.{Stood, Sound, Carries, Leaves, Covers, carries_then, leaves_then, leaves_after, leaves_where, leaves_unless, leaves_halt, leaves_under}
+use Rattle.run_grammar.proofs.OutcomeWords.{Stood, Sound, Carries, LeavesFrom, Covers, carries_then, carries_sound, from_then, from_after, from_where, from_unless, from_halt, from_under}
+use Rattle.run_grammar.proofs.Beginnings.{early}
 
-pub leaves_armed : (P : State → Type 0) (d : Role) (p q : Production) → Covers P → is_deadline d ≡ true → Leaves P p → Carries P q → Leaves P (armed d p q)
-leaves_armed P d p q c h f g = leaves_after P (arm d) (Where (started d) (Under d p q) p) (leaves_where P (started d) (Under d p q) p (leaves_under P d p q c h f g) f)
+pub from_armed : (S P : State → Type 0) (d : Role) (p q : Production) → Covers P → is_deadline d ≡ true → Carries S (arm d) → LeavesFrom S P p → Carries P q → LeavesFrom S P (armed d p q)
+from_armed S P d p q c h k f g =
+    from_after S P (arm d) (Where (tests.HasStarted d) (Under d p q) p) k (from_where S P (tests.HasStarted d) (Under d p q) p (from_under S P d p q c h f g) f)
 
 failure_is_some : (o : Option Outcome) → is_failure o ≡ true → is_some o ≡ true
 failure_is_some None h = absurd (cc)
@@ -30,27 +34,35 @@ failure_stood : (s : State) → failure_stands s ≡ true → Stood s
 unfolding failure_stands
 failure_stood s h = failure_is_some s.context.context.view.outcome h
 
-leaves_configured : (P : State → Type 0) (p : Production) → Covers P → Leaves P p → Leaves P (configured p)
-leaves_configured P p c g =
-    let third = hook hooks.ReadBeforeExecutionOperation ⨟ Work (kinds.Configure stages.Final) ⨟ Where failed Nothing p in
-    let second = hook hooks.ReadBeforeExecutionClient ⨟ Work (kinds.Configure stages.Operation) ⨟ Where failed Nothing third in
-    leaves_after P (Work (kinds.Configure stages.Client)) (Where failed Nothing second) (leaves_halt P second c
-    (leaves_after P (hook hooks.ReadBeforeExecutionClient) (Work (kinds.Configure stages.Operation) ⨟ Where failed Nothing third)
-    (leaves_after P (Work (kinds.Configure stages.Operation)) (Where failed Nothing third) (leaves_halt P third c
-    (leaves_after P (hook hooks.ReadBeforeExecutionOperation) (Work (kinds.Configure stages.Final) ⨟ Where failed Nothing p)
-    (leaves_after P (Work (kinds.Configure stages.Final)) (Where failed Nothing p) (leaves_halt P p c g)))))))
+-- each production whose questions all come before an attempt carries S, and S is sound
+pub record Early (S : State → Type 0) : Type 0 where
+  pub carried : (p : Production) → early p ≡ true → Carries S p
+  pub sound : (s : State) → S s → Sound s
 
-pub leaves_run : (P : State → Type 0) (stop : StopPoint) → Covers P → Carries P (arm roles.Operation) → Carries P settle → Carries P finish → Leaves P (op stop) → Leaves P (run stop)
+leaves_configured : (S P : State → Type 0) (p : Production) → Early S → Covers P → LeavesFrom S P p → LeavesFrom S P (configured p)
+leaves_configured S P p r c g =
+    let third = hook hooks.ReadBeforeExecutionOperation ⨟ Work (kinds.Configure stages.Final) ⨟ Where tests.Failed Nothing p in
+    let second = hook hooks.ReadBeforeExecutionClient ⨟ Work (kinds.Configure stages.Operation) ⨟ Where tests.Failed Nothing third in
+    from_after S P (Work (kinds.Configure stages.Client)) (Where tests.Failed Nothing second) (r.carried (Work (kinds.Configure stages.Client)) refl) (from_halt S P second c r.sound
+    (from_after S P (hook hooks.ReadBeforeExecutionClient) (Work (kinds.Configure stages.Operation) ⨟ Where tests.Failed Nothing third) (r.carried (hook hooks.ReadBeforeExecutionClient) refl)
+    (from_after S P (Work (kinds.Configure stages.Operation)) (Where tests.Failed Nothing third) (r.carried (Work (kinds.Configure stages.Operation)) refl) (from_halt S P third c r.sound
+    (from_after S P (hook hooks.ReadBeforeExecutionOperation) (Work (kinds.Configure stages.Final) ⨟ Where tests.Failed Nothing p) (r.carried (hook hooks.ReadBeforeExecutionOperation) refl)
+    (from_after S P (Work (kinds.Configure stages.Final)) (Where tests.Failed Nothing p) (r.carried (Work (kinds.Configure stages.Final)) refl) (from_halt S P p c r.sound g)))))))
+
+pub leaves_run : (S P : State → Type 0) (stop : StopPoint) → Early S → Covers P → Carries P (arm roles.Operation) → Carries P settle → Carries P finish → LeavesFrom S P (op stop) → LeavesFrom S P (run stop)
 unfolding run
-leaves_run P stop c a s f g =
+leaves_run S P stop r c a s f g =
     let worked = armed roles.Operation (op stop) settle in
-    leaves_configured P (Where failure_stands (arm roles.Operation ⨟ finish) (worked ⨟ finish)) c
-    (leaves_unless P failure_stands (arm roles.Operation ⨟ finish) (worked ⨟ finish) (λ t h e. c t (failure_stood t e)) (carries_then P (arm roles.Operation) finish a f)
-    (leaves_then P worked finish (leaves_armed P roles.Operation (op stop) settle c refl g s) f))
+    leaves_configured S P (Where tests.FailureStands (arm roles.Operation ⨟ finish) (worked ⨟ finish)) r c
+    (from_unless S P tests.FailureStands (arm roles.Operation ⨟ finish) (worked ⨟ finish) (λ t h e. c t (failure_stood t e)) (carries_then P (arm roles.Operation) finish a f)
+    (from_then S P worked finish (from_armed S P roles.Operation (op stop) settle c refl (r.carried (arm roles.Operation) refl) g s) f))
 
-begins_sound : (s : State) → s.last ≡ None → Sound s
+pub begins_sound : (s : State) → s.last ≡ None → Sound s
 unfolding failed
 begins_sound s e h = grind (arith, e, h)
 
-pub behind_whole : (P : State → Type 0) (stop : StopPoint) → Leaves P (run stop) → (p : Payload) (l : List Entry) → IsWhole stop (start p) l → P (standing (start p) l)
-behind_whole P stop g p l w = g [] (start p) l w.fitting w.run (begins_sound (start p) refl)
+pub behind_whole : (S P : State → Type 0) (stop : StopPoint) → ((p : Payload) → S (start p)) → LeavesFrom S P (run stop) → (p : Payload) (l : List Entry) → IsWhole stop (start p) l → P (standing (start p) l)
+behind_whole S P stop b g p l w = g [] (start p) l w.fitting w.run (b p)
+
+pub early_sound : Early Sound
+early_sound = record { carried = λ p h. carries_sound p; sound = λ s h. h }

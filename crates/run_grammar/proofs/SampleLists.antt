@@ -14,7 +14,8 @@ use Rattle.run_grammar.specs.Entry.{pending, ready, fails}
 use Rattle.run_grammar.specs.Fits.{fits}
 use Rattle.run_grammar.specs.Change.{changed}
 use Rattle.run_grammar.specs.Standing.{State, WellHanded, asked, standing, start, step}
-use Rattle.run_grammar.specs.Grammar.{run, failed, delayed, went, started, not_streaming, body_read, decided_yes, decided_delay, endpoint_stands, load_body, checkpoint_stands, failure_stands, timeout_stands}
+use Rattle.run_grammar.specs.Grammar.{run}
+use Rattle.run_grammar.specs.Tests.{failed, delayed, went, went_on, started, not_streaming, body_read, decided_yes, decided_no_after, decided_delay, endpoint_stands, load_body, checkpoint_stands, failure_stands, timeout_stands, token_needed}
 use Rattle.run_grammar.specs.Machine.{Accepts, begin}
 use Rattle.run_grammar.specs.Laws.{EachFits}
 use Rattle.run_grammar.specs.Samples.{Comes, Parts, Said, asking, said}
@@ -50,7 +51,7 @@ comes stop p l n o a f c e = record {
 
 -- 34 calls
 one_attempt_succeeds_accepted : (p : Parts) → Accepted stops.None p.input (runs.succeeded p)
-unfolding run failed delayed went started not_streaming body_read decided_yes decided_delay endpoint_stands load_body checkpoint_stands failure_stands timeout_stands pending ready fails step asked changed
+unfolding run failed delayed went went_on started not_streaming body_read decided_yes decided_no_after decided_delay endpoint_stands load_body checkpoint_stands failure_stands timeout_stands token_needed pending ready fails step asked changed
 one_attempt_succeeds_accepted p =
     (refl, (refl, (refl, (refl, (refl, (refl, (refl, (refl, (refl, (refl, (refl, (refl, (refl, (refl, (refl, (refl, (refl, (refl, (refl, (refl, (refl, (refl, (refl, (refl, (refl, (refl, (refl, (refl, (refl, (refl, (refl, (refl, (refl, (refl, refl))))))))))))))))))))))))))))))))))
 
@@ -60,7 +61,7 @@ one_attempt_succeeds p = comes stops.None p.input (runs.succeeded p) 34 _ (one_a
 
 -- 1 calls
 configuration_fails_accepted : (p : Parts) → Accepted stops.None p.input (said (kinds.Configure stages.Client) (answers.Failed p.text) ∷ [])
-unfolding run failed delayed went started not_streaming body_read decided_yes decided_delay endpoint_stands load_body checkpoint_stands failure_stands timeout_stands pending ready fails step asked changed
+unfolding run failed delayed went went_on started not_streaming body_read decided_yes decided_no_after decided_delay endpoint_stands load_body checkpoint_stands failure_stands timeout_stands token_needed pending ready fails step asked changed
 configuration_fails_accepted p =
     (refl, refl)
 
@@ -70,7 +71,7 @@ configuration_fails p = comes stops.None p.input (said (kinds.Configure stages.C
 
 -- 7 calls
 first_hook_fails_accepted : (p : Parts) → Accepted stops.None p.input (runs.hook_failed p)
-unfolding run failed delayed went started not_streaming body_read decided_yes decided_delay endpoint_stands load_body checkpoint_stands failure_stands timeout_stands pending ready fails step asked changed
+unfolding run failed delayed went went_on started not_streaming body_read decided_yes decided_no_after decided_delay endpoint_stands load_body checkpoint_stands failure_stands timeout_stands token_needed pending ready fails step asked changed
 first_hook_fails_accepted p =
     (refl, (refl, (refl, (refl, (refl, (refl, (refl, refl)))))))
 
@@ -80,7 +81,7 @@ first_hook_fails p = comes stops.None p.input (runs.hook_failed p) 7 _ (first_ho
 
 -- 27 calls
 transmit_fails_accepted : (p : Parts) (k : ConnectorKind) → Accepted stops.None p.input (runs.transmit_failed p k)
-unfolding run failed delayed went started not_streaming body_read decided_yes decided_delay endpoint_stands load_body checkpoint_stands failure_stands timeout_stands pending ready fails step asked changed
+unfolding run failed delayed went went_on started not_streaming body_read decided_yes decided_no_after decided_delay endpoint_stands load_body checkpoint_stands failure_stands timeout_stands token_needed pending ready fails step asked changed
 transmit_fails_accepted p k =
     (refl, (refl, (refl, (refl, (refl, (refl, (refl, (refl, (refl, (refl, (refl, (refl, (refl, (refl, (refl, (refl, (refl, (refl, (refl, (refl, (refl, (refl, (refl, (refl, (refl, (refl, (refl, refl)))))))))))))))))))))))))))
 
@@ -90,7 +91,7 @@ transmit_fails p k = comes stops.None p.input (runs.transmit_failed p k) 27 _ (t
 
 -- 33 calls
 body_fails_accepted : (p : Parts) → Accepted stops.None p.input (runs.body_failed p)
-unfolding run failed delayed went started not_streaming body_read decided_yes decided_delay endpoint_stands load_body checkpoint_stands failure_stands timeout_stands pending ready fails step asked changed
+unfolding run failed delayed went went_on started not_streaming body_read decided_yes decided_no_after decided_delay endpoint_stands load_body checkpoint_stands failure_stands timeout_stands token_needed pending ready fails step asked changed
 body_fails_accepted p =
     (refl, (refl, (refl, (refl, (refl, (refl, (refl, (refl, (refl, (refl, (refl, (refl, (refl, (refl, (refl, (refl, (refl, (refl, (refl, (refl, (refl, (refl, (refl, (refl, (refl, (refl, (refl, (refl, (refl, (refl, (refl, (refl, (refl, refl)))))))))))))))))))))))))))))))))
 
@@ -100,7 +101,7 @@ body_fails p = comes stops.None p.input (runs.body_failed p) 33 _ (body_fails_ac
 
 -- 26 calls
 stops_before_transmit_accepted : (p : Parts) → Accepted stops.BeforeTransmit p.input (runs.stopped p)
-unfolding run failed delayed went started not_streaming body_read decided_yes decided_delay endpoint_stands load_body checkpoint_stands failure_stands timeout_stands pending ready fails step asked changed
+unfolding run failed delayed went went_on started not_streaming body_read decided_yes decided_no_after decided_delay endpoint_stands load_body checkpoint_stands failure_stands timeout_stands token_needed pending ready fails step asked changed
 stops_before_transmit_accepted p =
     (refl, (refl, (refl, (refl, (refl, (refl, (refl, (refl, (refl, (refl, (refl, (refl, (refl, (refl, (refl, (refl, (refl, (refl, (refl, (refl, (refl, (refl, (refl, (refl, (refl, (refl, refl))))))))))))))))))))))))))
 
@@ -110,7 +111,7 @@ stops_before_transmit p = comes stops.BeforeTransmit p.input (runs.stopped p) 26
 
 -- 29 calls
 operation_cuts_accepted : (p : Parts) (n : ℕ) → Accepted stops.None p.input (runs.under_operation p n ++ runs.struck)
-unfolding run failed delayed went started not_streaming body_read decided_yes decided_delay endpoint_stands load_body checkpoint_stands failure_stands timeout_stands pending ready fails step asked changed
+unfolding run failed delayed went went_on started not_streaming body_read decided_yes decided_no_after decided_delay endpoint_stands load_body checkpoint_stands failure_stands timeout_stands token_needed pending ready fails step asked changed
 operation_cuts_accepted p n =
     (refl, (refl, (refl, (refl, (refl, (refl, (refl, (refl, (refl, (refl, (refl, (refl, (refl, (refl, (refl, (refl, (refl, (refl, (refl, (refl, (refl, (refl, (refl, (refl, (refl, (refl, (refl, (refl, (refl, refl)))))))))))))))))))))))))))))
 
@@ -120,7 +121,7 @@ operation_cuts p n = comes stops.None p.input (runs.under_operation p n ++ runs.
 
 -- 32 calls
 operation_cuts_later_accepted : (p : Parts) (n : ℕ) → Accepted stops.None p.input (runs.under_operation p n ++ runs.transmit_pending ∷ runs.waiting roles.Operation ∷ said kinds.Park answers.Parked ∷ runs.struck)
-unfolding run failed delayed went started not_streaming body_read decided_yes decided_delay endpoint_stands load_body checkpoint_stands failure_stands timeout_stands pending ready fails step asked changed
+unfolding run failed delayed went went_on started not_streaming body_read decided_yes decided_no_after decided_delay endpoint_stands load_body checkpoint_stands failure_stands timeout_stands token_needed pending ready fails step asked changed
 operation_cuts_later_accepted p n =
     (refl, (refl, (refl, (refl, (refl, (refl, (refl, (refl, (refl, (refl, (refl, (refl, (refl, (refl, (refl, (refl, (refl, (refl, (refl, (refl, (refl, (refl, (refl, (refl, (refl, (refl, (refl, (refl, (refl, (refl, (refl, (refl, refl))))))))))))))))))))))))))))))))
 
@@ -130,7 +131,7 @@ operation_cuts_later p n = comes stops.None p.input (runs.under_operation p n ++
 
 -- 31 calls
 operation_cuts_attempt_accepted : (p : Parts) (n : ℕ) (m : ℕ) → Accepted stops.None p.input (runs.cut_in_attempt p n m)
-unfolding run failed delayed went started not_streaming body_read decided_yes decided_delay endpoint_stands load_body checkpoint_stands failure_stands timeout_stands pending ready fails step asked changed
+unfolding run failed delayed went went_on started not_streaming body_read decided_yes decided_no_after decided_delay endpoint_stands load_body checkpoint_stands failure_stands timeout_stands token_needed pending ready fails step asked changed
 operation_cuts_attempt_accepted p n m =
     (refl, (refl, (refl, (refl, (refl, (refl, (refl, (refl, (refl, (refl, (refl, (refl, (refl, (refl, (refl, (refl, (refl, (refl, (refl, (refl, (refl, (refl, (refl, (refl, (refl, (refl, (refl, (refl, (refl, (refl, (refl, refl)))))))))))))))))))))))))))))))
 
@@ -140,7 +141,7 @@ operation_cuts_attempt p n m = comes stops.None p.input (runs.cut_in_attempt p n
 
 -- 30 calls
 attempt_cut_accepted : (p : Parts) (m : ℕ) → Accepted stops.None p.input (runs.attempt_cut p m)
-unfolding run failed delayed went started not_streaming body_read decided_yes decided_delay endpoint_stands load_body checkpoint_stands failure_stands timeout_stands pending ready fails step asked changed
+unfolding run failed delayed went went_on started not_streaming body_read decided_yes decided_no_after decided_delay endpoint_stands load_body checkpoint_stands failure_stands timeout_stands token_needed pending ready fails step asked changed
 attempt_cut_accepted p m =
     (refl, (refl, (refl, (refl, (refl, (refl, (refl, (refl, (refl, (refl, (refl, (refl, (refl, (refl, (refl, (refl, (refl, (refl, (refl, (refl, (refl, (refl, (refl, (refl, (refl, (refl, (refl, (refl, (refl, (refl, refl))))))))))))))))))))))))))))))
 
@@ -150,7 +151,7 @@ attempt_cut p m = comes stops.None p.input (runs.attempt_cut p m) 30 _ (attempt_
 
 -- 57 calls
 retries_accepted : (p : Parts) (b : List ℕ) (f : Fault) (d : ℕ) → Accepted stops.None p.input (runs.retried p b f d)
-unfolding run failed delayed went started not_streaming body_read decided_yes decided_delay endpoint_stands load_body checkpoint_stands failure_stands timeout_stands pending ready fails step asked changed
+unfolding run failed delayed went went_on started not_streaming body_read decided_yes decided_no_after decided_delay endpoint_stands load_body checkpoint_stands failure_stands timeout_stands token_needed pending ready fails step asked changed
 retries_accepted p b f d =
     (refl, (refl, (refl, (refl, (refl, (refl, (refl, (refl, (refl, (refl, (refl, (refl, (refl, (refl, (refl, (refl, (refl, (refl, (refl, (refl, (refl, (refl, (refl, (refl, (refl, (refl, (refl, (refl, (refl, (refl, (refl, (refl, (refl, (refl, (refl, (refl, (refl, (refl, (refl, (refl, (refl, (refl, (refl, (refl, (refl, (refl, (refl, (refl, (refl, (refl, (refl, (refl, (refl, (refl, (refl, (refl, (refl, refl)))))))))))))))))))))))))))))))))))))))))))))))))))))))))
 
@@ -160,7 +161,7 @@ retries p b f d = comes stops.None p.input (runs.retried p b f d) 57 _ (retries_
 
 -- 39 calls
 operation_cuts_pause_accepted : (p : Parts) (b : List ℕ) (f : Fault) (d : ℕ) (n : ℕ) → Accepted stops.None p.input (runs.pause_cut p b f d n)
-unfolding run failed delayed went started not_streaming body_read decided_yes decided_delay endpoint_stands load_body checkpoint_stands failure_stands timeout_stands pending ready fails step asked changed
+unfolding run failed delayed went went_on started not_streaming body_read decided_yes decided_no_after decided_delay endpoint_stands load_body checkpoint_stands failure_stands timeout_stands token_needed pending ready fails step asked changed
 operation_cuts_pause_accepted p b f d n =
     (refl, (refl, (refl, (refl, (refl, (refl, (refl, (refl, (refl, (refl, (refl, (refl, (refl, (refl, (refl, (refl, (refl, (refl, (refl, (refl, (refl, (refl, (refl, (refl, (refl, (refl, (refl, (refl, (refl, (refl, (refl, (refl, (refl, (refl, (refl, (refl, (refl, (refl, (refl, refl)))))))))))))))))))))))))))))))))))))))
 
@@ -170,7 +171,7 @@ operation_cuts_pause p b f d n = comes stops.None p.input (runs.pause_cut p b f 
 
 -- 35 calls
 sent_once_accepted : (p : Parts) (b : List ℕ) (f : Fault) (d : ℕ) → Accepted stops.None p.input (runs.not_retried p b f d)
-unfolding run failed delayed went started not_streaming body_read decided_yes decided_delay endpoint_stands load_body checkpoint_stands failure_stands timeout_stands pending ready fails step asked changed
+unfolding run failed delayed went went_on started not_streaming body_read decided_yes decided_no_after decided_delay endpoint_stands load_body checkpoint_stands failure_stands timeout_stands token_needed pending ready fails step asked changed
 sent_once_accepted p b f d =
     (refl, (refl, (refl, (refl, (refl, (refl, (refl, (refl, (refl, (refl, (refl, (refl, (refl, (refl, (refl, (refl, (refl, (refl, (refl, (refl, (refl, (refl, (refl, (refl, (refl, (refl, (refl, (refl, (refl, (refl, (refl, (refl, (refl, (refl, (refl, refl)))))))))))))))))))))))))))))))))))
 
@@ -180,7 +181,7 @@ sent_once p b f d = comes stops.None p.input (runs.not_retried p b f d) 35 _ (se
 
 -- 37 calls
 granted_later_accepted : (p : Parts) (d : ℕ) → Accepted stops.None p.input (runs.delayed p d)
-unfolding run failed delayed went started not_streaming body_read decided_yes decided_delay endpoint_stands load_body checkpoint_stands failure_stands timeout_stands pending ready fails step asked changed
+unfolding run failed delayed went went_on started not_streaming body_read decided_yes decided_no_after decided_delay endpoint_stands load_body checkpoint_stands failure_stands timeout_stands token_needed pending ready fails step asked changed
 granted_later_accepted p d =
     (refl, (refl, (refl, (refl, (refl, (refl, (refl, (refl, (refl, (refl, (refl, (refl, (refl, (refl, (refl, (refl, (refl, (refl, (refl, (refl, (refl, (refl, (refl, (refl, (refl, (refl, (refl, (refl, (refl, (refl, (refl, (refl, (refl, (refl, (refl, (refl, (refl, refl)))))))))))))))))))))))))))))))))))))
 

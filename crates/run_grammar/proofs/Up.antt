@@ -1,4 +1,5 @@
 -- A word of the spot where a production begins is a word of it.
+use Rattle.run_grammar.specs.Tests.{holds}
 use Rattle.std.proofs.Common.{Bool, true, false, cond, ℕ, zero, suc, List, [], ◌∷◌, ◌++◌, ◌≡◌, ◌⊎◌, refl, sym, ap, ◌∙◌, subst, inl, inr, append_assoc, append-nil}
 use Rattle.run_grammar.specs.declared.kind.Role.{Role}
 use Rattle.run_grammar.specs.declared.kind.Kind.{Kind}
@@ -128,7 +129,7 @@ up (Work k) g ds x s l (inl (a, b, e, w, v)) = inl (v.0, subst (λ m. WorkOf k d
 up (Work k) g ds x s l (inr (d, a, b, e, w, v)) = inr (d, v.0, subst (λ m. CutOf k d ds m) (whole_left l a b e v.1) w)
 up (p ⨟ q) g ds x s l v = then_up (first p ds s) (first q ds s) p q ds x s l (λ y m w. up p g.0 ds y s m w) (λ w. up q g.1 ds x s l w) v
 up (Where test p q) g ds x s l w =
-    (elim (test s) as (λ b. SpotWord (cond b (first p ds s) (first q ds s)) ds x s l → cond b (Word p ds x s l) (Word q ds x s l))
+    (elim (holds test s) as (λ b. SpotWord (cond b (first p ds s) (first q ds s)) ds x s l → cond b (Word p ds x s l) (Word q ds x s l))
     [ true ↦ λ v. up p g.0 ds x s l v | false ↦ λ v. up q g.1 ds x s l v ]) w
 up (Rounds p q) g ds x s l v =
     rounds_up (first p ds s) (first q ds s) p q ds x s l (g.2 ds s) (λ y m w. up p g.0 ds y s m w) (λ y m w. up q g.1 ds y s m w) v

@@ -1,4 +1,7 @@
 -- What a whole run is to the watcher.
+use Rattle.run_grammar.specs.declared.production.Test.{Test}
+use Rattle.run_grammar.specs.Tests.{holds}
+use Rattle.run_grammar.specs.declared.production.Test.TheVariants as tests
 use Rattle.std.proofs.Common.{Bool, true, false, cond, ℕ, zero, suc, List, [], ◌∷◌, ◌++◌, ◌≡◌, ◌⊎◌, refl, sym, ap, ◌∙◌, subst, inl, inr}
 use Rattle.smithy_types.specs.declared.hook.Hook.TheVariants as hooks
 use Rattle.smithy_types.specs.declared.kinds.StopPoint.{StopPoint}
@@ -10,7 +13,8 @@ use Rattle.run_grammar.specs.declared.answer.Entry.{Entry}
 use Rattle.run_grammar.specs.Standing.{State, standing}
 use Rattle.run_grammar.specs.Production.{Production, Nothing, Work, ◌⨟◌, Where, InAttempt, Under, End, Ended, Further, CutBy}
 use Rattle.run_grammar.specs.Words.{Word, ScopeEnds, RoundsOf, marked, is_ended}
-use Rattle.run_grammar.specs.Grammar.{hook, halted, arm, armed, timeout_stands, opening, sending, streaming, attempt, settle, turn, round, loop, front, grant, op, finish, configured, run, failed, failure_stands, started, went}
+use Rattle.run_grammar.specs.Grammar.{hook, halted, arm, armed, opening, sending, streaming, attempt, settle, turn, round, loop, front, grant, op, finish, configured, run}
+use Rattle.run_grammar.specs.Tests.{timeout_stands, failed, failure_stands, started, went}
 use Rattle.run_grammar.specs.Laws.{IsRun}
 use Rattle.run_grammar.proofs.Spots.{not_ended}
 use Rattle.run_grammar.proofs.CaseProofs.{Ends, body, config_halting}
@@ -39,8 +43,8 @@ opening_leads ds m = begun (behind opening) ds refl m
 
 attempt_leads : (stop : StopPoint) (ds : List Role) → EachWaits Open ds → Leads Outside Open (attempt stop) ds
 attempt_leads stops.None ds m =
-    leads_then Outside Open Open opening (Where failed Nothing (halted (sending ∷ streaming ∷ []))) ds (opening_leads ds m)
-    (leads_steady (Where failed Nothing (halted (sending ∷ streaming ∷ []))) Open ds refl m) (λ x n e k. k)
+    leads_then Outside Open Open opening (Where tests.Failed Nothing (halted (sending ∷ streaming ∷ []))) ds (opening_leads ds m)
+    (leads_steady (Where tests.Failed Nothing (halted (sending ∷ streaming ∷ []))) Open ds refl m) (λ x n e k. k)
 attempt_leads stops.BeforeTransmit ds m = opening_leads ds m
 
 -- where an attempt has led
@@ -94,7 +98,7 @@ arms d ds x s l w =
     [ true ↦ λ v. once Outside (kinds.Start d) ds x s l refl v | false ↦ λ v. (v.0, ap (λ k. watched (Resting Outside) k) v.1) ]) w
 
 abbrev scope : StopPoint → Production
-scope stop = Where (started roles.Attempt) (Under roles.Attempt (InAttempt (attempt stop)) Nothing) (InAttempt (attempt stop))
+scope stop = Where (tests.HasStarted roles.Attempt) (Under roles.Attempt (InAttempt (attempt stop)) Nothing) (InAttempt (attempt stop))
 
 tries_scope : (stop : StopPoint) (ds : List Role) → EachWaits Outside ds → (x : End) (s : State) (l : List Entry) → Word (scope stop) ds x s l → Tried x (watched (Resting Outside) l)
 tries_scope stop ds m x s l w =
@@ -148,9 +152,9 @@ goes_then : (p q : Production) (ds : List Role) → Goes p ds → Goes q ds → 
 goes_then p q ds f g x s l (inl (a, b, e, v, w)) = gone_on x l a b (Resting Outside) (Resting Outside) e (f Ended s a v) (g x (standing s a) b w)
 goes_then p q ds f g x s l (inr (n, w)) = f x s l w
 
-goes_where : (test : State → Bool) (p q : Production) (ds : List Role) → Goes p ds → Goes q ds → Goes (Where test p q) ds
+goes_where : (test : Test) (p q : Production) (ds : List Role) → Goes p ds → Goes q ds → Goes (Where test p q) ds
 goes_where test p q ds f g x s l w =
-    (elim (test s) as (λ b. cond b (Word p ds x s l) (Word q ds x s l) → Gone x (watched (Resting Outside) l)) [ true ↦ λ v. f x s l v | false ↦ λ v. g x s l v ]) w
+    (elim (holds test s) as (λ b. cond b (Word p ds x s l) (Word q ds x s l) → Gone x (watched (Resting Outside) l)) [ true ↦ λ v. f x s l v | false ↦ λ v. g x s l v ]) w
 
 rounds_go : (p : Production) (ds : List Role) → Goes p ds → (n : ℕ) (x : End) (s : State) (l : List Entry) → RoundsOf (Word p ds) (Word p ds) n x s l → Gone x (watched (Resting Outside) l)
 rounds_go p ds f zero x s l (h, w) = f x s l w
@@ -175,9 +179,9 @@ op_goes stop ds m =
     let f = goes_steady front ds refl m in
     let n = goes_steady Nothing ds refl m in
     let g = goes_steady grant ds refl m in
-    goes_then front (Where failed Nothing (grant ⨟ Where went (loop stop) Nothing)) ds f
-    (goes_where failed Nothing (grant ⨟ Where went (loop stop) Nothing) ds n
-    (goes_then grant (Where went (loop stop) Nothing) ds g (goes_where went (loop stop) Nothing ds (loop_goes stop ds m) n)))
+    goes_then front (Where tests.Failed Nothing (grant ⨟ Where tests.Went (loop stop) Nothing)) ds f
+    (goes_where tests.Failed Nothing (grant ⨟ Where tests.Went (loop stop) Nothing) ds n
+    (goes_then grant (Where tests.Went (loop stop) Nothing) ds g (goes_where tests.Went (loop stop) Nothing ds (loop_goes stop ds m) n)))
 
 -- where the operation's scope has led
 abbrev Worked : Watch → Type 0

@@ -1,4 +1,6 @@
 -- What the words of a production are to the watcher.
+use Rattle.run_grammar.specs.declared.production.Test.{Test}
+use Rattle.run_grammar.specs.Tests.{holds}
 use Rattle.std.proofs.Common.{Bool, true, false, cond, ℕ, zero, suc, List, [], ◌∷◌, ◌≡◌, refl, sym, ap, ◌∙◌, subst, inl, inr}
 use Rattle.run_grammar.specs.declared.kind.Role.{Role}
 use Rattle.run_grammar.specs.declared.kind.Kind.{Kind}
@@ -143,9 +145,9 @@ leads_then g h i p q ds f k early x s l (inl (a, b, e, v, w)) =
     kept_same i x (watched (Resting g) l) (watched (Resting h) b) (watched_on l a b (Resting g) (Resting h) e (f Ended s a v)) (k x (standing s a) b w)
 leads_then g h i p q ds f k early x s l (inr (e, w)) = early x (watched (Resting g) l) e (f x s l w)
 
-pub leads_where : (g h : Stage) (test : State → Bool) (p q : Production) (ds : List Role) → Leads g h p ds → Leads g h q ds → Leads g h (Where test p q) ds
+pub leads_where : (g h : Stage) (test : Test) (p q : Production) (ds : List Role) → Leads g h p ds → Leads g h q ds → Leads g h (Where test p q) ds
 leads_where g h test p q ds f k x s l w =
-    (elim (test s) as (λ b. cond b (Word p ds x s l) (Word q ds x s l) → Kept h x (watched (Resting g) l)) [ true ↦ λ v. f x s l v | false ↦ λ v. k x s l v ]) w
+    (elim (holds test s) as (λ b. cond b (Word p ds x s l) (Word q ds x s l) → Kept h x (watched (Resting g) l)) [ true ↦ λ v. f x s l v | false ↦ λ v. k x s l v ]) w
 
 leads_rounds : (g : Stage) (p q : Production) (ds : List Role) → Leads g g p ds → Leads g g q ds → (n : ℕ) (x : End) (s : State) (l : List Entry) →
     RoundsOf (Word p ds) (Word q ds) n x s l → Kept g x (watched (Resting g) l)

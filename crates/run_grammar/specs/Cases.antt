@@ -7,7 +7,8 @@ use Rattle.smithy_types.specs.declared.kinds.StopPoint.{StopPoint}
 use Rattle.run_grammar.specs.Standing.{State, standing}
 use Rattle.run_grammar.specs.Production.{Production, Nothing, ◌⨟◌, Ended, CutBy}
 use Rattle.run_grammar.specs.Words.{Word}
-use Rattle.run_grammar.specs.Grammar.{arm, configured, failed, failure_stands, finish, op, settle, started}
+use Rattle.run_grammar.specs.Grammar.{arm, configured, finish, op, settle}
+use Rattle.run_grammar.specs.Tests.{failed, failure_stands, started}
 
 -- L is a word of p, and then, from what that leaves, such a list
 abbrev pub AndThen : Production → State → List Entry → (State → List Entry → Type 0) → Type 0

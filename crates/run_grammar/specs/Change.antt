@@ -1,8 +1,11 @@
 -- How an entry changes what stands. A name in brackets is the function of the Rust crate's
 -- orchestrator.rs from which the rule below it comes, where no other file is named; context.rs is that of
 -- aws-smithy-runtime-api's interceptors.
-use Rattle.std.specs.Prelude.{Bool, false, ℕ, ◌+◌, ◌-◌, ◌^◌, min, Option, None, Some, List, ◌++◌, codes, cond}
+use Rattle.std.specs.Prelude.{Bool, true, false, ℕ, ◌+◌, ◌-◌, ◌^◌, ◌==◌, min, Option, None, Some, List, ◌++◌, codes, cond}
 use Rattle.std.specs.Fmt.{decimal}
+use Rattle.smithy_types.specs.declared.config.RetrySpec.{RetrySpec}
+use Rattle.smithy_types.specs.declared.config.RetrySpecVersion.{RetrySpecVersion}
+use Rattle.smithy_types.specs.declared.config.RetrySpecVersion.TheVariants as versions
 use Rattle.smithy_types.specs.declared.config.TimeoutConfig.{TimeoutConfig}
 use Rattle.smithy_context.specs.declared.context.InterceptorContext.{InterceptorContext}
 use Rattle.smithy_types.specs.declared.fault.FaultKind.{FaultKind}
@@ -64,6 +67,22 @@ is_load_body _ = false
 abbrev pub loads_body : StandingLayers → Bool
 loads_body s = is_load_body (loaded s keys.LoadBody)
 
+abbrev pub is_version_2_1 : RetrySpecVersion → Bool
+is_version_2_1 versions.V2_0 = false
+is_version_2_1 versions.V2_1 = true
+
+abbrev pub is_spec_2_1 : Option RetrySpec → Bool
+is_spec_2_1 None = false
+is_spec_2_1 (Some r) = is_version_2_1 r.version
+
+abbrev pub is_retry_2_1 : Option Setting → Bool
+is_retry_2_1 (Some (settings.Retry r)) = is_spec_2_1 r.spec
+is_retry_2_1 _ = false
+
+-- the standing Retry has a spec of version 2.1: each further attempt has a token of its own
+abbrev pub needs_token : StandingLayers → Bool
+needs_token s = is_retry_2_1 (loaded s keys.Retry)
+
 -- how long the sleep of a role is: the standing timeout of that name (timeout.rs, `MaybeTimeoutConfig::new`),
 -- or the standing delay
 abbrev pub nanos_for : Role → Standing → Option ℕ
@@ -71,7 +90,7 @@ nanos_for roles.Operation s = operation_timeout (timeouts s.context.view.setting
 nanos_for roles.Attempt s = attempt_timeout (timeouts s.context.view.settings)
 nanos_for roles.Send s = s.delay
 nanos_for roles.Retry s = s.delay
-nanos_for roles.LongPoll s = None
+nanos_for roles.LongPoll s = s.delay
 
 -- ---- parts
 
@@ -183,9 +202,14 @@ refused_text = codes "the retry strategy indicates that an initial request shoul
 abbrev pub granted : Standing → Standing
 granted s = let c = checkpointed s.context in with_context s (record c { view = record c.view { attempt = 1 } })
 
+-- no attempt is made so far
+abbrev pub is_unbegun : Standing → Bool
+is_unbegun s = s.context.view.attempt == 0
+
+-- Go and No say of the first attempt whether it is made; of a later one neither changes anything
 abbrev pub on_initial : Standing → Answer → Standing
-on_initial s answers.Go = granted s
-on_initial s answers.No = fails_with s faults.Other refused_text
+on_initial s answers.Go = cond (is_unbegun s) (granted s) s
+on_initial s answers.No = cond (is_unbegun s) (fails_with s faults.Other refused_text) s
 on_initial s (answers.Delay n) = with_delay s n
 on_initial s a = or_fails s a
 

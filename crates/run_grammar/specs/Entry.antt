@@ -1,5 +1,5 @@
 -- What an entry's question and answer are.
-use Rattle.std.specs.Prelude.{Bool, true, false, cond, Option, Some, is_some}
+use Rattle.std.specs.Prelude.{Bool, true, false, cond, ℕ, ◌==◌, Option, Some, is_some}
 use Rattle.run_grammar.specs.Writes.{writes_outcome}
 use Rattle.smithy_context.specs.declared.intercept.Change.{Change}
 use Rattle.smithy_context.specs.declared.intercept.Change.TheVariants as changes
@@ -81,19 +81,21 @@ abbrev pub hook_fails : Kind → HookAnswer → Bool
 hook_fails (kinds.Hook h) a = cond (is_some a.failure) true (cond (writes_outcome h) (writes_failure a.change) false)
 hook_fails _ a = is_some a.failure
 
--- the entry sets a failure (orchestrator.rs, `halt_on_err!` and `continue_on_err!`)
-abbrev pub sets_failure : Kind → Answer → Bool
-sets_failure k answers.Absent = cond (may_be_absent k) false true
-sets_failure k (answers.Failed text) = true
-sets_failure k (answers.ConnectorFailed kind text) = true
-sets_failure k answers.No = true
-sets_failure k (answers.Hooked a) = hook_fails k a
-sets_failure k (answers.Outcome o) = is_failed o
-sets_failure k answers.Ready = is_wait_of_deadline k
-sets_failure k _ = false
+-- the answer sets a failure where the attempt of this number stands (orchestrator.rs, `halt_on_err!` and
+-- `continue_on_err!`). A No refuses the first attempt, before which the number is 0; it refuses no later one.
+abbrev pub sets_failure : Kind → ℕ → Answer → Bool
+sets_failure k n answers.Absent = cond (may_be_absent k) false true
+sets_failure k n (answers.Failed text) = true
+sets_failure k n (answers.ConnectorFailed kind text) = true
+sets_failure k n answers.No = n == 0
+sets_failure k n (answers.Hooked a) = hook_fails k a
+sets_failure k n (answers.Outcome o) = is_failed o
+sets_failure k n answers.Ready = is_wait_of_deadline k
+sets_failure k n _ = false
 
-unfoldable pub fails : Entry → Bool
-fails e = sets_failure (kind_of e) e.answer
+-- the entry sets a failure; no entry whose answer is No changes the number
+unfoldable pub fails : ℕ → Entry → Bool
+fails n e = sets_failure (kind_of e) n e.answer
 
 -- the kind that gives up a kind that is pending (timeout.rs, where the cut future is dropped)
 abbrev pub abandon_of : Kind → Kind

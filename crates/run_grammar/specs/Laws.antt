@@ -1,5 +1,5 @@
 -- What a run is, and the laws of runs.
-use Rattle.std.specs.Prelude.{true, List, [], ◌∷◌, ◌++◌, ◌≡◌, ◌⊎◌}
+use Rattle.std.specs.Prelude.{true, List, [], ◌∷◌, ◌++◌, ◌≡◌, ◌⊎◌, ◌↔◌}
 use Rattle.run_grammar.specs.declared.answer.Answer.{Answer}
 use Rattle.run_grammar.specs.declared.question.Question.{Question}
 use Rattle.run_grammar.specs.declared.answer.Entry.{Entry}
@@ -11,6 +11,7 @@ use Rattle.run_grammar.specs.Question.{kind_of_question}
 use Rattle.run_grammar.specs.Grammar.{run}
 use Rattle.run_grammar.specs.Production.{Ended}
 use Rattle.run_grammar.specs.Words.{Word}
+use Rattle.run_grammar.specs.Machine.{begin, Path}
 
 abbrev pub IsRun : StopPoint → State → List Entry → Type 0
 IsRun stop s l = Word (run stop) [] Ended s l
@@ -37,3 +38,10 @@ OneQuestion = (stop : StopPoint) (s : State) (l : List Entry) (e f : Entry) → 
 abbrev pub GoesOn : Type 0
 GoesOn = (stop : StopPoint) (s : State) (l : List Entry) → Begins stop s l → IsWhole stop s l
     ⊎ ((q : Question) × ((a : Answer) → fits (kind_of_question q) a ≡ true → Begins stop s (l ++ entry q a ∷ [])))
+
+-- each entry is taken by the machine, handed what stands, and fitting
+abbrev pub IsTaken : StopPoint → State → List Entry → Type 0
+IsTaken stop s l = Path (begin (run stop) s) s l × WellHanded s l × EachFits l
+
+abbrev pub BegunAreTaken : Type 0
+BegunAreTaken = (stop : StopPoint) (s : State) (l : List Entry) → Begins stop s l ↔ IsTaken stop s l

@@ -4,6 +4,7 @@ pub mod Entry
 pub mod Fits
 pub mod Change
 pub mod Standing
+pub mod Tests
 pub mod Production
 pub mod Words
 pub mod Grammar
@@ -14,6 +15,7 @@ pub mod Attempts
 pub mod Finals
 pub mod Outcomes
 pub mod Scopes
+pub mod Tokens
 pub mod Breaks
 pub mod Samples
 pub mod SampleRuns

@@ -1,4 +1,5 @@
 -- The same as a machine that takes one entry at a time.
+use Rattle.run_grammar.specs.Tests.{holds}
 use Rattle.std.specs.Prelude.{Bool, true, false, cond, List, [], ◌∷◌, ◌≡◌}
 use Rattle.run_grammar.specs.declared.kind.Role.{Role}
 use Rattle.run_grammar.specs.declared.kind.Kind.{Kind}
@@ -44,7 +45,7 @@ first Nothing ds s = AtEnd
 first Again ds s = AtAgain
 first (Work k) ds s = At k ds Nothing
 first (p ⨟ q) ds s = then_spot (first p ds s) q (first q ds s)
-first (Where test p q) ds s = cond (test s) (first p ds s) (first q ds s)
+first (Where test p q) ds s = cond (holds test s) (first p ds s) (first q ds s)
 first (Rounds p q) ds s = round_spot (first p ds s) q (first q ds s)
 first (InAttempt p) ds s = within_spot (first p ds s)
 first (Under d p q) ds s = under_spot d (first p (d ∷ ds) s) q

@@ -2,7 +2,7 @@
 use Rattle.std.specs.Prelude.{Bool}
 use Rattle.run_grammar.specs.declared.kind.Role.{Role}
 use Rattle.run_grammar.specs.declared.kind.Kind.{Kind}
-use Rattle.run_grammar.specs.Standing.{State}
+use Rattle.run_grammar.specs.declared.production.Test.{Test}
 
 infixr 5 ◌⨟◌
 pub data Production : Type 0 where
@@ -13,7 +13,7 @@ pub data Production : Type 0 where
   -- the first, and then the second
   ◌⨟◌ : Production → Production → Production
   -- the first where the test holds, and the second where it does not
-  Where : (State → Bool) → Production → Production → Production
+  Where : Test → Production → Production → Production
   -- this round, and after each round that ends with Again a further one, of the second production
   Rounds : Production → Production → Production
   -- nothing; and the enclosing Rounds goes on with a further round

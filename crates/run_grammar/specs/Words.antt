@@ -1,4 +1,5 @@
 -- What a word of a production is.
+use Rattle.run_grammar.specs.Tests.{holds}
 use Rattle.std.specs.Prelude.{Bool, true, false, cond, ℕ, zero, suc, List, [], ◌∷◌, ◌++◌, ◌≡◌, ◌⊎◌}
 use Rattle.run_grammar.specs.declared.kind.Role.{Role}
 use Rattle.run_grammar.specs.declared.kind.Kind.{Kind}
@@ -85,7 +86,7 @@ Word (Work k) ds x s l = ((x ≡ Ended) × WorkOf k ds l) ⊎ ((d : Role) × (x 
 Word (p ⨟ q) ds x s l =
     ((a : List Entry) × (b : List Entry) × (l ≡ a ++ b) × Word p ds Ended s a × Word q ds x (standing s a) b)
     ⊎ ((is_ended x ≡ false) × Word p ds x s l)
-Word (Where test p q) ds x s l = cond (test s) (Word p ds x s l) (Word q ds x s l)
+Word (Where test p q) ds x s l = cond (holds test s) (Word p ds x s l) (Word q ds x s l)
 Word (Rounds p q) ds x s l = (n : ℕ) × RoundsOf (Word p ds) (Word q ds) n x s l
 Word (InAttempt p) ds x s l = (y : End) × (x ≡ marked y) × Word p ds y s l
 Word (Under d p q) ds x s l =

@@ -50,11 +50,11 @@ pub enum Answer {
     Request(Shared<HttpRequest>),
     /// The request's body, in memory.
     Loaded(Blob),
-    /// A first attempt is made.
+    /// The attempt is made.
     Go,
-    /// No first attempt is made.
+    /// No first attempt is made. A further one is made nonetheless.
     No,
-    /// A first attempt is made after so many nanoseconds.
+    /// The attempt is asked for again after so many nanoseconds.
     Delay(u64),
     Started,
     /// The sleep is over.

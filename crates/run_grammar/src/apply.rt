@@ -1,6 +1,7 @@
 //! How an entry changes what stands.
 ghost use Rattle.std.specs.Prelude.{◌≡◌, None, true, IfOk, OnOk, OnErr};
 ghost use Rattle.run_grammar.specs.Change as change;
+ghost use Rattle.run_grammar.specs.declared.answer.Answer.TheVariants as answers;
 ghost use Rattle.run_grammar.specs.Writes.{writes_input, writes_request, writes_response, writes_outcome};
 
 use crate::{Answer, Chosen, ConfigureStage, Kind, Role, Standing};
@@ -245,13 +246,11 @@ impl Standing {
         ensures err { OnErr result (self.new ≡ self.old) }
     {
         match answer {
-            Answer::Go => {
-                self.context.save_checkpoint()?;
-                self.context.view.attempt = 1;
-                Ok(())
-            }
+            Answer::Go => self.begin_attempts(),
             Answer::No => {
-                self.fail(FaultKind::Other, Text::from_static(REFUSED));
+                if self.context.view.attempt == 0 {
+                    self.fail(FaultKind::Other, Text::from_static(REFUSED));
+                }
                 Ok(())
             }
             Answer::Delay(nanos) => {
@@ -260,6 +259,19 @@ impl Standing {
             }
             _ => self.fail_by(answer),
         }
+    }
+
+    // The first attempt begins. A later one stands already: nothing changes.
+    fn begin_attempts(&mut self) -> Result<(), OutOfMemory>
+        ensures ok { OnOk result (self.new ≡ change.on_initial self.old answers.Go) }
+        ensures err { OnErr result (self.new ≡ self.old) }
+    {
+        if self.context.view.attempt != 0 {
+            return Ok(());
+        }
+        self.context.save_checkpoint()?;
+        self.context.view.attempt = 1;
+        Ok(())
     }
 
     // Begins a further attempt, where a checkpoint stands.

@@ -83,9 +83,10 @@ impl Answer {
         }
     }
 
-    /// Whether the answer to a question of this kind sets a failure.
-    pub fn fails(&self, kind: Kind) -> bool
-        ensures { result ≡ sets_failure kind self.now }
+    /// Whether the answer to a question of this kind sets a failure where the attempt of this
+    /// number stands, 0 before the first. No fails at 0 alone.
+    pub fn fails(&self, kind: Kind, attempt: u64) -> bool
+        ensures { result ≡ sets_failure kind attempt self.now }
     {
         match self {
             Answer::Absent => !matches!(
@@ -94,7 +95,7 @@ impl Answer {
             ),
             Answer::Failed(_) => true,
             Answer::ConnectorFailed(_, _) => true,
-            Answer::No => true,
+            Answer::No => attempt == 0,
             Answer::Hooked(answer) => hook_fails(kind, answer),
             Answer::Outcome(outcome) => matches!(outcome.get(), Outcome::Failed(_)),
             Answer::Ready => matches!(kind, Kind::Wait(Role::Operation | Role::Attempt)),

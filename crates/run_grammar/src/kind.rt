@@ -20,11 +20,11 @@ pub enum Role {
     Operation,
     /// The deadline of one attempt.
     Attempt,
-    /// The delay before the first attempt.
+    /// The delay that a grant asks for, before the first attempt or before a further one.
     Send,
     /// The delay before a further attempt.
     Retry,
-    /// The pause of an operation that polls for long.
+    /// The pause after a refused further attempt, before the operation ends.
     LongPoll,
 }
 
@@ -52,7 +52,7 @@ pub enum Kind {
     Serialize,
     /// The request's body is loaded into memory.
     Load,
-    /// Whether a first attempt is made.
+    /// Whether a first attempt is made, or a further one that needs a token of its own.
     Initial,
     /// A sleep is started.
     Start(Role),

@@ -6,12 +6,13 @@ ghost use Rattle.run_grammar.specs.Standing.{State};
 ghost use Rattle.run_grammar.specs.Grammar.{run};
 ghost use Rattle.run_grammar.specs.Machine.{Accepts, begin};
 ghost use Rattle.run_grammar.specs.Cases.{RunCases};
-ghost use Rattle.run_grammar.specs.Laws.{GoesOn, IsRun, NoPrefix, OneQuestion};
+ghost use Rattle.run_grammar.specs.Laws.{BegunAreTaken, GoesOn, IsRun, NoPrefix, OneQuestion};
 ghost use Rattle.run_grammar.specs.Outcomes.{OutcomeStands, RequestOrOutcomeStands};
 ghost use Rattle.run_grammar.specs.Attempts.{AttemptsComplete};
 ghost use Rattle.run_grammar.specs.Breaks.{NoLateQuestion, NoMissingFinalizers, NoOpenAttempt};
 ghost use Rattle.run_grammar.specs.Finals.{FinalizersOnce};
 ghost use Rattle.run_grammar.specs.Scopes.{AttemptScopesEnd, OperationScopesEnd};
+ghost use Rattle.run_grammar.specs.Tokens.{TokensStand};
 
 /// A list is a run exactly where the machine that takes one entry at a time accepts it.
 pub fn runs_are_accepted()
@@ -78,4 +79,18 @@ pub fn broken_lists_are_not_whole()
     ensures open_attempt { NoOpenAttempt }
     ensures missing_finalizers { NoMissingFinalizers }
     ensures late_question { NoLateQuestion }
+{}
+
+/// A list begins a run exactly where the machine asks each of its questions, each is handed what
+/// stands before it, and each answer fits. So one pass over a list decides both: it begins a run
+/// where each entry is taken, and it is whole where the machine then has nothing more to ask.
+pub fn begun_lists_are_taken()
+    ensures { BegunAreTaken }
+{}
+
+/// In a whole list, where the standing retry configuration has a spec of version 2.1 when an
+/// attempt begins, the entry before it, but for the Start of its deadline, is an Initial that was
+/// answered Go or No. So each attempt has the answer to a grant of its own, the first too.
+pub fn tokens_stand()
+    ensures { TokensStand }
 {}

@@ -1,12 +1,15 @@
 //! What stands in a run after the entries so far.
 ghost use Rattle.std.specs.Prelude.{◌≡◌, IfOk, true};
-ghost use Rattle.run_grammar.specs.Change.{nanos_for, loads_body, timeouts};
+ghost use Rattle.run_grammar.specs.Change.{nanos_for, loads_body, needs_token, is_spec_2_1, timeouts};
 ghost use Rattle.run_grammar.specs.Standing.{starting, asks, on_request_way, on_settled_way};
 
 use crate::Question;
 use crate::kind::{Kind, Role};
 use smithy_context::{InterceptorContext, Setting, SettingKey, Settings};
-use smithy_types::{Endpoint, Identity, OutOfMemory, Payload, Shared, Text, TimeoutConfig};
+use smithy_types::{
+    Endpoint, Identity, OutOfMemory, Payload, RetrySpec, RetrySpecVersion, Shared, Text,
+    TimeoutConfig,
+};
 
 /// What stands in a run: the context that interceptors see, and what only the engine reads.
 #[derive(Drop)]
@@ -16,7 +19,7 @@ pub struct Standing {
     pub scheme: Option<Text>,
     pub identity: Option<Shared<Identity>>,
     pub endpoint: Option<Shared<Endpoint>>,
-    /// The last delay that a grant or a decision asked for, in nanoseconds.
+    /// The last delay or pause that a grant or a decision asked for, in nanoseconds.
     pub delay: Option<u64>,
     /// How long the started deadline of the operation is, in nanoseconds.
     pub operation_deadline: Option<u64>,
@@ -48,8 +51,7 @@ impl Standing {
         match role {
             Role::Operation => timeouts(&self.context.view.settings)?.operation,
             Role::Attempt => timeouts(&self.context.view.settings)?.attempt,
-            Role::Send | Role::Retry => self.delay,
-            Role::LongPoll => None,
+            Role::Send | Role::Retry | Role::LongPoll => self.delay,
         }
     }
 
@@ -58,6 +60,14 @@ impl Standing {
         ensures { result ≡ loads_body self.now.context.view.settings }
     {
         loads_body(&self.context.view.settings)
+    }
+
+    /// Whether each attempt but the first needs a token of its own: the standing retry
+    /// configuration has a spec of version 2.1.
+    pub fn needs_token(&self) -> bool
+        ensures { result ≡ needs_token self.now.context.view.settings }
+    {
+        needs_token(&self.context.view.settings)
     }
 
     /// The question of this kind, with the parts that stand.
@@ -175,5 +185,23 @@ fn loads_body(settings: &Settings) -> bool
     match settings.load(&SettingKey::LoadBody) {
         Some(Setting::LoadBody(loads)) => *loads,
         _ => false,
+    }
+}
+
+fn needs_token(settings: &Settings) -> bool
+    ensures { result ≡ needs_token settings.now }
+{
+    match settings.load(&SettingKey::Retry) {
+        Some(Setting::Retry(retry)) => is_spec_2_1(&retry.spec),
+        _ => false,
+    }
+}
+
+fn is_spec_2_1(spec: &Option<RetrySpec>) -> bool
+    ensures { result ≡ is_spec_2_1 spec.now }
+{
+    match spec {
+        Some(spec) => matches!(spec.version, RetrySpecVersion::V2_1),
+        None => false,
     }
 }

@@ -34,3 +34,12 @@ returns-in-AtDecide c = λ s h t. c.after_decision.ensures c.args.stop s h t ∙
 
 pub returns-in-AtStartRetry : goal.returns-in-AtStartRetry
 returns-in-AtStartRetry c = λ s h t. c.after_start_retry.ensures c.args.stop s h t ∙ ap (λ p. next_point c.args.stop c.args.armed p s) (sym c.in-AtStartRetry.is)
+
+pub returns-in-AtStartLongPoll : goal.returns-in-AtStartLongPoll
+returns-in-AtStartLongPoll c = λ s h t. c.after_start_long_poll.ensures c.args.stop s t ∙ ap (λ p. next_point c.args.stop c.args.armed p s) (sym c.in-AtStartLongPoll.is)
+
+pub returns-in-AtTokenInitial : goal.returns-in-AtTokenInitial
+returns-in-AtTokenInitial c = λ s h t. c.after_token.ensures c.args.stop s h t ∙ ap (λ p. next_point c.args.stop c.args.armed p s) (sym c.in-AtTokenInitial.is)
+
+pub returns-in-AtTokenStartSend : goal.returns-in-AtTokenStartSend
+returns-in-AtTokenStartSend c = λ s h t. c.after_token_start_send.ensures c.args.stop s t ∙ ap (λ p. next_point c.args.stop c.args.armed p s) (sym c.in-AtTokenStartSend.is)
