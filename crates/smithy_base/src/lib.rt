@@ -1,15 +1,21 @@
 //! What every client stands on: the plain types of a run, its settings and context, and interceptors.
 #![tactic(auto)]
 
+pub mod chain;
+pub mod intercept;
+mod walk;
+
+pub use chain::{run_chain, run_each};
+pub use intercept::{Intercept, Slot};
 pub use smithy_context::{
-    Change, FrozenLayer, HookAnswer, HookView, InterceptorContext, Layer, LayerEntry, RewindResult,
-    Setting, SettingKey, Settings,
+    Change, CloneableLayer, FrozenLayer, HookAnswer, HookView, InterceptorContext, Layer,
+    LayerEntry, RewindResult, Setting, SettingKey, Settings,
 };
 pub use smithy_types::{
     AcceptorState, Blob, Body, Choice, ChooseNote, ConnectorKind, CustomPartition, DecideNote,
-    Endpoint, EndpointHeader, ErrorKind, Fault, FaultKind, Headers, Hook, HttpRequest, HttpResponse,
-    Identity, List, OutOfMemory, Outcome, PartitionRegistry, Payload, Phase, Reason, ReconnectMode,
-    RetryAction, RetryConfig, RetryMode, RetryPartition, RetryPartitionBuilder, RetrySpec,
-    RetrySpecVersion, SdkError, Shared, StalledStreamProtectionConfig, StopPoint, Sums, Text,
-    TimeoutConfig, Timers, TimersCall, Wire,
+    Endpoint, EndpointHeader, ErrorKind, Fault, FaultKind, Headers, Hook, HttpRequest,
+    HttpResponse, Identity, List, OutOfMemory, Outcome, PartitionRegistry, Payload, Phase,
+    ProvideErrorKind, Reason, ReconnectMode, RetryAction, RetryConfig, RetryMode, RetryPartition,
+    RetryPartitionBuilder, RetrySpec, RetrySpecVersion, SdkError, Shared,
+    StalledStreamProtectionConfig, StopPoint, Sums, Text, TimeoutConfig, Timers, TimersCall, Wire,
 };

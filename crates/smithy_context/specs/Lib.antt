@@ -5,3 +5,4 @@ pub mod SettingsView
 pub mod Settings
 pub mod Failures
 pub mod Context
+pub mod Hooks

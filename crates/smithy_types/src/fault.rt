@@ -1,8 +1,7 @@
 //! What went wrong in a run, and what stands at its end.
 ghost use Rattle.std.specs.Prelude.{◌≡◌};
 
-use crate::HttpResponse;
-use crate::{ConnectorKind, Hook, Payload, Text};
+use crate::{ConnectorKind, Hook, HttpResponse, Payload, Text};
 use std::alloc::AllocError;
 
 /// What a fault comes from.
