@@ -9,3 +9,4 @@ pub mod Answering
 pub mod Completeness
 pub mod SpelledLaw
 pub mod QueueLemmas
+pub mod Ending

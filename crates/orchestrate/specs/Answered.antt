@@ -24,6 +24,14 @@ Answers c (Err OutOfMemory) = Unit {0}
 Answers c (Err Unfinished) = ⊥
 Answers c (Err (WrongType payload)) = ⊥
 
+-- the same at a stop point, where the context itself is the answer
+abbrev pub Stopped : InterceptorContext → Result InterceptorContext (InvokeError Payload) → Type 0
+Stopped c (Ok context) = (context ≡ c) × (is_failure c.view.outcome ≡ false)
+Stopped c (Err (Sdk error)) = (error ≡ failure_of c) × (is_failure c.view.outcome ≡ true)
+Stopped c (Err OutOfMemory) = Unit {0}
+Stopped c (Err Unfinished) = ⊥
+Stopped c (Err (WrongType payload)) = ⊥
+
 -- the log grew by a whole run of at most fuel calls, and so it is with the context at its end
 abbrev pub WholeRun : Payload → StopPoint → ℕ → List Entry → List Entry → (InterceptorContext → Type 0) → Type 0
 WholeRun p stop fuel before log ends =

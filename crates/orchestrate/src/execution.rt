@@ -4,7 +4,7 @@ ghost use Rattle.orchestrate.specs.Stands.{Ran, RunLost};
 ghost use Rattle.orchestrate.specs.Answered.{ContextAnswered, PayloadAnswered};
 ghost use Rattle.orchestrate.specs.Handing.{HadMemory, HandedOn};
 
-use crate::finish::{failure, outcome};
+use crate::finish::{outcome, stopped};
 use crate::invocation::{Invocation, Step};
 use crate::world::World;
 use run_grammar::{Standing, StopPoint};
@@ -37,6 +37,7 @@ impl<E> From<OutOfMemory> for InvokeError<E> {
 }
 
 /// Runs an operation, and answers its output. At most `fuel` questions are asked.
+#[tactic(auto, using(crate::proofs::Ending::answered_at_end))]
 pub fn invoke<W: World>(
     alloc: Global,
     _service_name: &str,
@@ -56,6 +57,7 @@ pub fn invoke<W: World>(
 
 /// Runs an operation up to the stop point, and answers the context at its end. At most `fuel`
 /// questions are asked.
+#[tactic(auto, using(crate::proofs::Ending::stopped_at_end))]
 pub fn invoke_with_stop_point<W: World>(
     alloc: Global,
     _service_name: &str,
@@ -69,14 +71,7 @@ pub fn invoke_with_stop_point<W: World>(
     ensures related { HadMemory result → HandedOn W.relates world.old world.new (W.calls world.old) (W.calls world.new) }
 {
     match run(alloc, world, input, stop, fuel)? {
-        Some(standing) => {
-            let context = standing.context;
-            if context.is_failed() {
-                Err(InvokeError::Sdk(failure(context)?))
-            } else {
-                Ok(context)
-            }
-        }
+        Some(standing) => stopped(standing.context),
         None => Err(InvokeError::Unfinished),
     }
 }

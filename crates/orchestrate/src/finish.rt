@@ -1,64 +1,68 @@
 //! What a whole run comes to.
 ghost use Rattle.std.specs.Prelude.{◌≡◌, IfOk};
-ghost use Rattle.smithy_context.specs.Failures.{sdk_error_of};
-ghost use Rattle.orchestrate.specs.Answered.{Answers};
+ghost use Rattle.orchestrate.specs.Answered.{Answers, Stopped};
 ghost use Rattle.orchestrate.specs.Finish.{failure_of, no_outcome};
 
 use crate::execution::InvokeError;
 use smithy_context::{HookView, InterceptorContext};
-use smithy_types::{
-    Fault, FaultKind, HttpResponse, OutOfMemory, Outcome, Payload, Phase, SdkError, Shared, Text,
-};
+use smithy_types::{Fault, FaultKind, HttpResponse, OutOfMemory, Outcome, Payload, SdkError, Text};
 
 const NO_OUTCOME: &'static str = "no outcome stands";
 
 /// The output that stands, or the error that the standing failure gives. Where neither stands it
-/// is an untyped failure. An error takes a copy of the response that is held.
+/// is an untyped failure. The response that is held is copied.
 pub fn outcome(context: InterceptorContext) -> Result<Payload, InvokeError<Payload>>
     ensures { Answers context result }
 {
     let phase = context.phase;
-    let HookView {
-        outcome,
-        response,
-        ..
-    } = context.view;
+    let (outcome, response) = ending(context.view)?;
     match outcome {
         Some(Outcome::Output(payload)) => Ok(payload),
-        Some(Outcome::Failed(fault)) => Err(InvokeError::Sdk(error_of(fault, phase, &response)?)),
-        None => Err(InvokeError::Sdk(error_of(no_outcome(), phase, &response)?)),
+        Some(Outcome::Failed(fault)) => {
+            Err(InvokeError::Sdk(InterceptorContext::sdk_error(fault, phase, response)))
+        }
+        None => Err(InvokeError::Sdk(InterceptorContext::sdk_error(no_outcome(), phase, response))),
     }
 }
 
-/// The error of the failure that stands.
-pub fn failure(context: InterceptorContext) -> Result<SdkError<Payload>, OutOfMemory>
+/// The context itself where no failure stands, and the error that the failure gives otherwise.
+pub fn stopped(context: InterceptorContext) -> Result<InterceptorContext, InvokeError<Payload>>
+    ensures { Stopped context result }
+{
+    if context.is_failed() {
+        match failure(context) {
+            Ok(error) => Err(InvokeError::Sdk(error)),
+            Err(OutOfMemory) => Err(InvokeError::OutOfMemory),
+        }
+    } else {
+        Ok(context)
+    }
+}
+
+// The error of the failure that stands. The response that is held is copied.
+fn failure(context: InterceptorContext) -> Result<SdkError<Payload>, OutOfMemory>
     ensures { IfOk result (λ e. e ≡ failure_of context) }
 {
     let phase = context.phase;
-    let HookView {
-        outcome,
-        response,
-        ..
-    } = context.view;
+    let (outcome, response) = ending(context.view)?;
     match outcome {
-        Some(Outcome::Failed(fault)) => error_of(fault, phase, &response),
-        _ => error_of(no_outcome(), phase, &response),
+        Some(Outcome::Failed(fault)) => {
+            Ok(InterceptorContext::sdk_error(fault, phase, response))
+        }
+        _ => Ok(InterceptorContext::sdk_error(no_outcome(), phase, response)),
     }
 }
 
-// The error of a failure, with a copy of the response that is held.
-fn error_of(
-    fault: Fault,
-    phase: Phase,
-    response: &Option<Shared<HttpResponse>>,
-) -> Result<SdkError<Payload>, OutOfMemory>
-    ensures { IfOk result (λ e. e ≡ sdk_error_of fault phase response.now) }
+// What a view's run came to, and a copy of the response.
+fn ending(view: HookView) -> Result<(Option<Outcome>, Option<HttpResponse>), OutOfMemory>
+    ensures outcome { IfOk result (λ r. r.0 ≡ view.outcome) }
+    ensures response { IfOk result (λ r. r.1 ≡ view.response) }
 {
-    let response = match response {
+    let response = match &view.response {
         Some(response) => Some(response.get().clone()?),
         None => None,
     };
-    Ok(InterceptorContext::sdk_error(fault, phase, response))
+    Ok((view.outcome, response))
 }
 
 fn no_outcome() -> Fault
