@@ -25,6 +25,9 @@ pub mod WatchedRun
 pub mod AttemptLaw
 pub mod FinalLaw
 pub mod ScopeLaw
+pub mod Avoiding
 pub mod TokenLaw
+pub mod ConfigureLaw
 pub mod Breaking
 pub mod SampleLists
+pub mod TokenLists

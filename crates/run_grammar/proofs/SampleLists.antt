@@ -38,10 +38,10 @@ asking_fits (x ∷ l) s f =
     let h = both_plain (fits x.kind x.answer) (all_fit l) f in
     (made_fits x.kind s x.answer h.0, asking_fits l (step s (made x.kind s x.answer)) h.1)
 
-abbrev Accepted : StopPoint → Payload → List Said → Type 0
+abbrev pub Accepted : StopPoint → Payload → List Said → Type 0
 Accepted stop p l = Accepts (begin (run stop) (start p)) (start p) (asking (start p) l)
 
-comes : (stop : StopPoint) (p : Payload) (l : List Said) (n : ℕ) (o : Option Outcome) → Accepted stop p l → all_fit l ≡ true → length l ≡ n →
+pub comes : (stop : StopPoint) (p : Payload) (l : List Said) (n : ℕ) (o : Option Outcome) → Accepted stop p l → all_fit l ≡ true → length l ≡ n →
     (standing (start p) (asking (start p) l)).context.context.view.outcome ≡ o → Comes stop p l n o
 comes stop p l n o a f c e = record {
   whole = record { run = accepted_run stop (start p) (asking (start p) l) a; handed = asking_handed l (start p); fitting = asking_fits l (start p) f };

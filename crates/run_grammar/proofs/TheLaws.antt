@@ -3,12 +3,13 @@ use Rattle.std.proofs.Common.{sym, true, List, [], ◌∷◌, ◌++◌, ◌≡�
 use Rattle.run_grammar.specs.declared.answer.Entry.{Entry}
 use Rattle.smithy_types.specs.declared.kinds.StopPoint.{StopPoint}
 use Rattle.run_grammar.specs.Entry.{kind_of}
+use Rattle.run_grammar.specs.Question.{kind_of_question}
 use Rattle.run_grammar.specs.Fits.{fits}
 use Rattle.run_grammar.specs.Standing.{State, standing, step, asked, WellHanded}
 use Rattle.run_grammar.specs.Grammar.{run}
 use Rattle.run_grammar.specs.Machine.{Position, Whole, begin, next, Asks, Accepts, after, Path}
-use Rattle.run_grammar.specs.Laws.{EachFits, IsRun, IsWhole, Begins, NoPrefix, OneQuestion, GoesOn}
-use Rattle.run_grammar.proofs.Finishing.{asked_kind, made, made_handed}
+use Rattle.run_grammar.specs.Laws.{EachFits, IsRun, IsWhole, Begins, NoPrefix, OneQuestion, GoesOn, SomeAnswerFits}
+use Rattle.run_grammar.proofs.Finishing.{asked_kind, closing, closing_fits, made, made_handed}
 use Rattle.run_grammar.proofs.Positions.{FineAt, fine_begin, word_coming, coming_word}
 use Rattle.run_grammar.proofs.Steps.{accepted, accepted_back}
 use Rattle.run_grammar.proofs.Rounds.{fine_run}
@@ -97,3 +98,6 @@ goes_on_law stop s l b =
             stands_begins stop s (l ++ e ∷ []) (there stop s (l ++ e ∷ [])) (stands_more stop s l (there stop s l) w e b (made_handed k (standing s l)) f),
       )
     ]
+
+pub some_answer_fits : SomeAnswerFits
+some_answer_fits q = (closing (kind_of_question q), closing_fits (kind_of_question q))

@@ -31,122 +31,25 @@ use Rattle.run_grammar.proofs.Paths.{fits_of}
 use Rattle.run_grammar.proofs.Finishing.{closed}
 use Rattle.run_grammar.proofs.Closed.{attempt_closed, armed_closed}
 use Rattle.run_grammar.proofs.Watch.{both}
+use Rattle.run_grammar.proofs.Avoiding.{Avoids, Aside, avoids, avoids_scope, word_avoids}
 use Rattle.run_grammar.proofs.Watching.{answered_alone}
 
--- ---- lists none of whose entries begins an attempt
+-- ---- words none of whose entries begins an attempt
 
 abbrev Never : List Entry → Type 0
-Never [] = Unit {0}
-Never (e ∷ l) = (begins_attempt (kind_of e) ≡ false) × Never l
+Never l = Avoids begins_attempt l
 
-never_both : (a b l : List Entry) → l ≡ a ++ b → Never a → Never b → Never l
-never_both a b l e h g = subst Never (sym e) (joined a h)
-  where
-    joined : (c : List Entry) → Never c → Never (c ++ b)
-    joined [] n = g
-    joined (x ∷ c) n = (n.0, joined c n.1)
+beside : Aside begins_attempt
+beside = record { waits = λ d. refl; parks = refl; gives_up = λ x. refl }
 
-is_of : (e : Entry) (k : Kind) → kind_of e ≡ k → begins_attempt k ≡ false → begins_attempt (kind_of e) ≡ false
-is_of e k h b = ap begins_attempt h ∙ b
-
-never_abandon : (k : Kind) → begins_attempt (abandon_of k) ≡ false
-never_abandon (kinds.Configure w) = refl
-never_abandon (kinds.Hook h) = refl
-never_abandon kinds.Serialize = refl
-never_abandon kinds.Load = refl
-never_abandon kinds.Initial = refl
-never_abandon (kinds.Start r) = refl
-never_abandon (kinds.Wait roles.Operation) = refl
-never_abandon (kinds.Wait roles.Attempt) = refl
-never_abandon (kinds.Wait roles.Send) = refl
-never_abandon (kinds.Wait roles.Retry) = refl
-never_abandon (kinds.Wait roles.LongPoll) = refl
-never_abandon kinds.Choose = refl
-never_abandon kinds.Endpoint = refl
-never_abandon kinds.Apply = refl
-never_abandon kinds.Sign = refl
-never_abandon kinds.Transmit = refl
-never_abandon kinds.Stream = refl
-never_abandon kinds.Body = refl
-never_abandon kinds.Deserialize = refl
-never_abandon kinds.Decide = refl
-never_abandon (kinds.Abandon p) = refl
-never_abandon kinds.Park = refl
-
-never_waits : (ds : List Role) (l : List Entry) → WaitsOf ds l → Never l
-never_waits [] [] w = absurd w
-never_waits (d ∷ ds) [] w = absurd w
-never_waits [] (e ∷ l) (k, n) = (is_of e kinds.Park k refl, subst Never (sym n) tt)
-never_waits (d ∷ ds) (e ∷ l) (k, p, w) = (is_of e (kinds.Wait d) k refl, never_waits ds l w)
-
-never_struck : (k : Kind) (d : Role) (ds : List Role) (l : List Entry) → Struck k d ds l → Never l
-never_struck k d [] l w = absurd w
-never_struck k d (c ∷ ds) [] w = absurd w
-never_struck k d (c ∷ ds) (e ∷ l) (j, inl (p, w)) = (is_of e (kinds.Wait c) j refl, never_struck k d ds l w)
-never_struck k d (c ∷ ds) (e ∷ l) (j, inr (same, p, r, a, n, i)) = (is_of e (kinds.Wait c) j refl, subst Never (sym n) (is_of a (abandon_of k) i (never_abandon k), tt))
-
-never_idle : (k : Kind) (ds : List Role) (l : List Entry) → begins_attempt k ≡ false → Idle k ds l → Never l
-never_idle k ds [] b w = absurd w
-never_idle k ds (e ∷ l) b (j, p, w) = (is_of e k j b, never_waits ds l w)
-
-never_idles : (k : Kind) (ds : List Role) (last : List Entry → Type 0) → begins_attempt k ≡ false → ((l : List Entry) → last l → Never l) → (n : ℕ) (l : List Entry) → AfterIdles k ds last n l → Never l
-never_idles k ds last b f zero l w = f l w
-never_idles k ds last b f (suc n) l (a, c, e, i, w) = never_both a c l e (never_idle k ds a b i) (never_idles k ds last b f n c w)
-
-never_answered : (k : Kind) → begins_attempt k ≡ false → (l : List Entry) → Answered k l → Never l
-never_answered k b l (e, n, j, p) = subst Never (sym n) (is_of e k j b, tt)
-
-never_cut : (k : Kind) (d : Role) (ds : List Role) → begins_attempt k ≡ false → (l : List Entry) → CutOnce k d ds l → Never l
-never_cut k d ds b [] w = absurd w
-never_cut k d ds b (e ∷ l) (j, p, w) = (is_of e k j b, never_struck k d ds l w)
-
--- no question of the production begins an attempt
 abbrev never : Production → Bool
-never Nothing = true
-never Again = true
-never (Work k) = not (begins_attempt k)
-never (p ⨟ q) = cond (never p) (never q) false
-never (Where t p q) = cond (never p) (never q) false
-never (Rounds p q) = cond (never p) (never q) false
-never (InAttempt p) = never p
-never (Under d p q) = cond (never p) (never q) false
-
-not_true : (b : Bool) → not b ≡ true → b ≡ false
-not_true true h = absurd (cc)
-not_true false h = refl
-
-never_rounds : (V W : End → State → List Entry → Type 0) → ((x : End) (s : State) (l : List Entry) → V x s l → Never l) → ((x : End) (s : State) (l : List Entry) → W x s l → Never l) →
-    (n : ℕ) (x : End) (s : State) (l : List Entry) → RoundsOf V W n x s l → Never l
-never_rounds V W f g zero x s l (h, w) = f x s l w
-never_rounds V W f g (suc n) x s l (a, b, e, v, w) = never_both a b l e (f Further s a v) (never_rounds W W g g n x (standing s a) b w)
-
-never_scope : (d : Role) (inner : End → List Entry → Type 0) → ((x : End) (l : List Entry) → inner x l → Never l) → (y x : End) (l : List Entry) → ScopeEnds d inner y x l → Never l
-never_scope d inner f Ended x l (e, n) = subst Never (sym n) tt
-never_scope d inner f Further x l (e, n) = subst Never (sym n) tt
-never_scope d inner f (CutBy c i) x l w =
-    (elim (same_role d c) as (λ t. cond t (cond i (inner x l) ((x ≡ Ended) × (l ≡ []))) ((x ≡ CutBy c i) × (l ≡ [])) → Never l) [
-      | true ↦ elim i as (λ t. cond t (inner x l) ((x ≡ Ended) × (l ≡ [])) → Never l) [ true ↦ λ u. f x l u | false ↦ λ u. subst Never (sym u.1) tt ]
-      | false ↦ λ u. subst Never (sym u.1) tt
-    ]) w
+never p = avoids begins_attempt p
 
 word_never : (p : Production) → never p ≡ true → (ds : List Role) (x : End) (s : State) (l : List Entry) → Word p ds x s l → Never l
-word_never Nothing h ds x s l (e, n) = subst Never (sym n) tt
-word_never Again h ds x s l (e, n) = subst Never (sym n) tt
-word_never (Work k) h ds x s l (inl (e, (n, w))) = let b = not_true (begins_attempt k) h in never_idles k ds (Answered k) b (never_answered k b) n l w
-word_never (Work k) h ds x s l (inr (d, e, (n, w))) = let b = not_true (begins_attempt k) h in never_idles k ds (CutOnce k d ds) b (never_cut k d ds b) n l w
-word_never (p ⨟ q) h ds x s l (inl (a, b, e, v, w)) =
-    let g = both (never p) (never q) h in never_both a b l e (word_never p g.0 ds Ended s a v) (word_never q g.1 ds x (standing s a) b w)
-word_never (p ⨟ q) h ds x s l (inr (e, w)) = word_never p (both (never p) (never q) h).0 ds x s l w
-word_never (Where t p q) h ds x s l w =
-    let g = both (never p) (never q) h in
-    (elim (holds t s) as (λ b. cond b (Word p ds x s l) (Word q ds x s l) → Never l) [ true ↦ λ v. word_never p g.0 ds x s l v | false ↦ λ v. word_never q g.1 ds x s l v ]) w
-word_never (Rounds p q) h ds x s l (n, w) =
-    let g = both (never p) (never q) h in
-    never_rounds (Word p ds) (Word q ds) (λ y t m v. word_never p g.0 ds y t m v) (λ y t m v. word_never q g.1 ds y t m v) n x s l w
-word_never (InAttempt p) h ds x s l (y, e, w) = word_never p h ds y s l w
-word_never (Under d p q) h ds x s l (a, b, y, e, v, w) =
-    let g = both (never p) (never q) h in
-    never_both a b l e (word_never p g.0 (d ∷ ds) y s a v) (never_scope d (λ z m. Word q ds z (standing s a) m) (λ z m u. word_never q g.1 ds z (standing s a) m u) y x b w)
+word_never p h ds x s l w = word_avoids begins_attempt beside p h ds x s l w
+
+never_scope : (d : Role) (inner : End → List Entry → Type 0) → ((x : End) (l : List Entry) → inner x l → Never l) → (y x : End) (l : List Entry) → ScopeEnds d inner y x l → Never l
+never_scope d inner f y x l w = avoids_scope begins_attempt beside d inner f y x l w
 
 -- ---- a production with no Again of its own never ends with one
 

@@ -39,6 +39,10 @@ abbrev pub GoesOn : Type 0
 GoesOn = (stop : StopPoint) (s : State) (l : List Entry) → Begins stop s l → IsWhole stop s l
     ⊎ ((q : Question) × ((a : Answer) → fits (kind_of_question q) a ≡ true → Begins stop s (l ++ entry q a ∷ [])))
 
+-- each question has a fitting answer
+abbrev pub SomeAnswerFits : Type 0
+SomeAnswerFits = (q : Question) → (a : Answer) × (fits (kind_of_question q) a ≡ true)
+
 -- each entry is taken by the machine, handed what stands, and fitting
 abbrev pub IsTaken : StopPoint → State → List Entry → Type 0
 IsTaken stop s l = Path (begin (run stop) s) s l × WellHanded s l × EachFits l

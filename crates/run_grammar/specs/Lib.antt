@@ -16,6 +16,8 @@ pub mod Finals
 pub mod Outcomes
 pub mod Scopes
 pub mod Tokens
+pub mod Refusals
 pub mod Breaks
 pub mod Samples
 pub mod SampleRuns
+pub mod TokenRuns

@@ -6,12 +6,13 @@ ghost use Rattle.run_grammar.specs.Standing.{State};
 ghost use Rattle.run_grammar.specs.Grammar.{run};
 ghost use Rattle.run_grammar.specs.Machine.{Accepts, begin};
 ghost use Rattle.run_grammar.specs.Cases.{RunCases};
-ghost use Rattle.run_grammar.specs.Laws.{BegunAreTaken, GoesOn, IsRun, NoPrefix, OneQuestion};
+ghost use Rattle.run_grammar.specs.Laws.{BegunAreTaken, GoesOn, IsRun, NoPrefix, OneQuestion, SomeAnswerFits};
 ghost use Rattle.run_grammar.specs.Outcomes.{OutcomeStands, RequestOrOutcomeStands};
 ghost use Rattle.run_grammar.specs.Attempts.{AttemptsComplete};
 ghost use Rattle.run_grammar.specs.Breaks.{NoLateQuestion, NoMissingFinalizers, NoOpenAttempt};
 ghost use Rattle.run_grammar.specs.Finals.{FinalizersOnce};
 ghost use Rattle.run_grammar.specs.Scopes.{AttemptScopesEnd, OperationScopesEnd};
+ghost use Rattle.run_grammar.specs.Refusals.{ConfigurationsEnd};
 ghost use Rattle.run_grammar.specs.Tokens.{TokensStand};
 
 /// A list is a run exactly where the machine that takes one entry at a time accepts it.
@@ -35,9 +36,11 @@ pub fn one_question_continues()
     ensures { OneQuestion }
 {}
 
-/// A list that begins a run is whole, or goes on by each fitting answer of its one question.
+/// A list that begins a run is whole, or goes on by each fitting answer of its one question; and
+/// each question has a fitting answer.
 pub fn a_begun_list_goes_on()
-    ensures { GoesOn }
+    ensures goes_on { GoesOn }
+    ensures answerable { SomeAnswerFits }
 {}
 
 /// At the end of a whole run without a stop point an output or a failure stands.
@@ -93,4 +96,10 @@ pub fn begun_lists_are_taken()
 /// answered Go or No. So each attempt has the answer to a grant of its own, the first too.
 pub fn tokens_stand()
     ensures { TokensStand }
+{}
+
+/// A Configure that isn't answered Layer is the last entry of a whole list, and leaves an untyped
+/// failure in the phase before serialization.
+pub fn configurations_end()
+    ensures { ConfigurationsEnd }
 {}

@@ -1,6 +1,7 @@
 //! Sample runs, shown call by call over any requests, responses and payloads. Each is the contract
 //! of a function without a body.
 ghost use Rattle.run_grammar.specs.SampleRuns.{OneAttemptSucceeds, ConfigurationFails, FirstHookFails, TransmitFails, BodyFails, StopsBeforeTransmit, OperationCuts, OperationCutsLater, OperationCutsAttempt, AttemptCut, Retries, OperationCutsPause, SentOnce, GrantedLater};
+ghost use Rattle.run_grammar.specs.TokenRuns.{TokenDelays, TokenRefused, TokenFails, TokenUnslept, RefusalPauses, RefusalUnslept, TokenCut, PauseCut};
 
 /// Runs of one attempt, and runs that never come to one: their calls, how many they are, and the
 /// outcome at the end.
@@ -28,4 +29,19 @@ pub fn cuts()
 pub fn further_attempts()
     ensures retries { Retries }
     ensures sent_once { SentOnce }
+{}
+
+/// Runs under Retry Behavior 2.1: a further attempt's token that is delayed, refused or fails, or
+/// whose delay has no sleep; a pause after a refused attempt, with a sleep and without one; and
+/// the operation's deadline that cuts a token's wait or such a pause, which runs no hook of an
+/// attempt.
+pub fn tokens_and_pauses()
+    ensures token_delays { TokenDelays }
+    ensures token_refused { TokenRefused }
+    ensures token_fails { TokenFails }
+    ensures token_unslept { TokenUnslept }
+    ensures refusal_pauses { RefusalPauses }
+    ensures refusal_unslept { RefusalUnslept }
+    ensures token_cut { TokenCut }
+    ensures pause_cut { PauseCut }
 {}
