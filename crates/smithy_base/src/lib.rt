@@ -3,10 +3,15 @@
 
 pub mod chain;
 pub mod intercept;
+pub mod map_request;
+pub mod mutate_request;
+mod request_hooks;
 mod walk;
 
 pub use chain::{run_chain, run_each};
 pub use intercept::{Intercept, Slot};
+pub use map_request::MapRequestInterceptor;
+pub use mutate_request::MutateRequestInterceptor;
 pub use smithy_context::{
     Change, CloneableLayer, FrozenLayer, HookAnswer, HookView, InterceptorContext, Layer,
     LayerEntry, RewindResult, Setting, SettingKey, Settings,
