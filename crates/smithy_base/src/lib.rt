@@ -2,16 +2,20 @@
 #![tactic(auto)]
 
 pub mod chain;
+pub mod components;
 pub mod intercept;
 pub mod map_request;
 pub mod mutate_request;
+pub mod request_function;
 mod request_hooks;
 mod walk;
 
 pub use chain::{run_chain, run_each};
+pub use components::ComponentsDraft;
 pub use intercept::{Intercept, Slot};
 pub use map_request::MapRequestInterceptor;
 pub use mutate_request::MutateRequestInterceptor;
+pub use request_function::{MapRequest, MutateRequest};
 pub use smithy_context::{
     Change, CloneableLayer, FrozenLayer, HookAnswer, HookView, InterceptorContext, Layer,
     LayerEntry, RewindResult, Setting, SettingKey, Settings,

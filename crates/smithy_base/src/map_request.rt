@@ -2,9 +2,10 @@
 ghost use Rattle.std.specs.Prelude.{◌≡◌};
 
 use crate::intercept::Intercept;
+use crate::request_function::MapRequest;
 use crate::request_hooks::{is_before_signing, mapped};
 use smithy_context::{HookAnswer, HookView};
-use smithy_types::{Hook, HttpRequest, OutOfMemory, Text};
+use smithy_types::{Hook, OutOfMemory};
 use std::alloc::Global;
 use std::fmt;
 
@@ -13,22 +14,20 @@ use std::fmt;
 /// Where the function fails, the request is gone: `GET /` stands, without headers and with a taken
 /// body, and the hook fails with the function's text.
 #[derive(Drop)]
-pub struct MapRequestInterceptor<F: Fn(HttpRequest) -> Result<HttpRequest, Text> + Drop> {
+pub struct MapRequestInterceptor<F: MapRequest> {
     f: F,
-    ghost callable: { F.IsAlwaysCallable f },
 }
 
-impl<F: Fn(HttpRequest) -> Result<HttpRequest, Text> + Drop> MapRequestInterceptor<F> {
+impl<F: MapRequest> MapRequestInterceptor<F> {
     /// The interceptor of this function.
     pub fn new(f: F) -> MapRequestInterceptor<F>
-        requires { F.IsAlwaysCallable f }
         ensures { result.f ≡ f }
     {
         MapRequestInterceptor { f }
     }
 }
 
-impl<F: Fn(HttpRequest) -> Result<HttpRequest, Text> + Drop> fmt::Debug
+impl<F: MapRequest> fmt::Debug
     for MapRequestInterceptor<F>
 {
     fn fmt<W: fmt::Write>(&self, f: &mut fmt::Formatter<W>) -> fmt::Result {
@@ -36,7 +35,7 @@ impl<F: Fn(HttpRequest) -> Result<HttpRequest, Text> + Drop> fmt::Debug
     }
 }
 
-impl<F: Fn(HttpRequest) -> Result<HttpRequest, Text> + Drop> Intercept
+impl<F: MapRequest> Intercept
     for MapRequestInterceptor<F>
 {
     ghost use Rattle.std.specs.Prelude.{◌≡◌, codes, Result, List, ℕ};
@@ -47,7 +46,7 @@ impl<F: Fn(HttpRequest) -> Result<HttpRequest, Text> + Drop> Intercept
 
     ghost hooks = { λ _ hook. is_before_signing hook };
 
-    ghost runs = { λ old hook view answer new. (new ≡ old) × AnswersBeforeSigning (λ request a. (given : Result HttpRequest (List ℕ)) × F.post old.f request given × (a ≡ mapped given)) (is_before_signing hook) view.request answer };
+    ghost runs = { λ old hook view answer new. (new ≡ old) × AnswersBeforeSigning (λ request a. (given : Result HttpRequest (List ℕ)) × F.maps old.f request given × (a ≡ mapped given)) (is_before_signing hook) view.request answer };
 
     fn name(&self) -> &str {
         "MapRequestInterceptor"
@@ -69,7 +68,7 @@ impl<F: Fn(HttpRequest) -> Result<HttpRequest, Text> + Drop> Intercept
         let Some(request) = &view.request else {
             return Ok(HookAnswer::done());
         };
-        let given = (self.f)(request.get().clone()?);
+        let given = self.f.map_request(request.get().clone()?);
         mapped(alloc, given)
     }
 }
