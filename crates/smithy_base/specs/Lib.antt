@@ -1,3 +1,4 @@
 pub mod Chain
 pub mod Walk
 pub mod Requests
+pub mod Resolving
