@@ -32,3 +32,6 @@ pub use smithy_types::{
     RetryPartitionBuilder, RetrySpec, RetrySpecVersion, SdkError, Shared,
     StalledStreamProtectionConfig, StopPoint, Sums, Text, TimeoutConfig, Timers, TimersCall, Wire,
 };
+
+#[cfg(test)]
+mod tests;

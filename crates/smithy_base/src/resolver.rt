@@ -9,6 +9,7 @@ use smithy_context::{CloneableLayer, FrozenLayer, Setting, SettingKey};
 
 /// Looks settings and parts up. The latest ones are those that are being written: the client's own
 /// in initial mode, those of an operation in override mode.
+#[derive(Drop)]
 pub struct Resolver<'a> {
     /// What stands below the latest, in override mode.
     pub initial: Option<InitialConfig>,
