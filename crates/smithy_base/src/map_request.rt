@@ -27,17 +27,13 @@ impl<F: MapRequest> MapRequestInterceptor<F> {
     }
 }
 
-impl<F: MapRequest> fmt::Debug
-    for MapRequestInterceptor<F>
-{
+impl<F: MapRequest> fmt::Debug for MapRequestInterceptor<F> {
     fn fmt<W: fmt::Write>(&self, f: &mut fmt::Formatter<W>) -> fmt::Result {
         write!(f, "MapRequestInterceptor")
     }
 }
 
-impl<F: MapRequest> Intercept
-    for MapRequestInterceptor<F>
-{
+impl<F: MapRequest> Intercept for MapRequestInterceptor<F> {
     ghost use Rattle.std.specs.Prelude.{◌≡◌, codes, Result, List, ℕ};
     ghost use Rattle.smithy_types.specs.declared.http.HttpRequest.{HttpRequest};
     ghost use Rattle.smithy_base.specs.Requests.{is_before_signing, mapped, AnswersBeforeSigning};

@@ -14,10 +14,7 @@ pub(crate) fn is_before_signing(hook: Hook) -> bool
 }
 
 /// The answer that writes this request.
-pub(crate) fn writes_request(
-    alloc: Global,
-    request: HttpRequest,
-) -> Result<HookAnswer, OutOfMemory>
+pub(crate) fn writes_request(alloc: Global, request: HttpRequest) -> Result<HookAnswer, OutOfMemory>
     ensures { IfOk result (λ answer. answer ≡ writes_request request) }
 {
     Ok(HookAnswer {

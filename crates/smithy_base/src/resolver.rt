@@ -1,6 +1,8 @@
 //! A resolver of configuration, over the latest configuration and the initial one below it.
 ghost use Rattle.std.specs.Prelude.{◌≡◌, ◌||◌, is_some, is_none, Some, None, option_copied};
 ghost use Rattle.smithy_context.specs.Settings.{or_else};
+ghost use Rattle.std.specs.Borrow.{sem};
+ghost use Rattle.smithy_base.specs.Lending.{LendsConfig, LendsComponents};
 ghost use Rattle.smithy_base.specs.Resolving.{value_in, initial_value, initial_sleep};
 
 use crate::components::ComponentsDraft;
@@ -70,6 +72,7 @@ impl<'a> Resolver<'a> {
 
     /// The latest settings, to be written.
     pub fn config_mut(&mut self) -> &mut CloneableLayer
+        ensures* writes_back { sem 𝓛 (LendsConfig self.entry result) }
         ensures value { result.now ≡ self.old.config.now }
     {
         self.config
@@ -77,6 +80,7 @@ impl<'a> Resolver<'a> {
 
     /// The latest parts, to be written.
     pub fn runtime_components_mut(&mut self) -> &mut ComponentsDraft
+        ensures* writes_back { sem 𝓛 (LendsComponents self.entry result) }
         ensures value { result.now ≡ self.old.components.now }
     {
         self.components

@@ -145,7 +145,10 @@ fn a_map_that_fails_leaves_an_empty_request(rt: HostRuntime) -> Result<(), Fail>
     assert_eq!(rt; request.as_str(), want);
     assert_eq!(rt; answer.failure, Some(Text::from_static("no")));
     let text = format!(in alloc; "{map:?} {}", map.name())?;
-    assert_eq!(rt; text.as_str(), "MapRequestInterceptor MapRequestInterceptor");
+    assert_eq!(rt;
+        text.as_str(),
+        "MapRequestInterceptor MapRequestInterceptor"
+    );
     Ok(())
 }
 
@@ -168,11 +171,19 @@ fn a_boxed_interceptor_changes_the_request_before_signing(rt: HostRuntime) -> Re
     let alloc = rt.alloc();
     let mutate = MutateRequestInterceptor::new(Deleting);
     let text = format!(in alloc; "{mutate:?} {}", mutate.name())?;
-    assert_eq!(rt; text.as_str(), "MutateRequestInterceptor MutateRequestInterceptor");
+    assert_eq!(rt;
+        text.as_str(),
+        "MutateRequestInterceptor MutateRequestInterceptor"
+    );
     let boxed: Slot<Failing> = Slot::Boxed(Box::new(alloc, mutate)?);
     let mut chain = vec![in alloc; boxed]?;
     let view = posting(alloc)?;
-    let answer = run_chain(alloc, chain.as_mut_slice(), Hook::ModifyBeforeSigning, &view)?;
+    let answer = run_chain(
+        alloc,
+        chain.as_mut_slice(),
+        Hook::ModifyBeforeSigning,
+        &view,
+    )?;
     let request = written(alloc, &answer)?;
     let want = "HttpRequest { method: \"DELETE\", uri: \"/a\", headers: {}, body: Bytes([]) }";
     assert_eq!(rt; request.as_str(), want);
@@ -210,7 +221,10 @@ fn an_initial_resolver_sees_what_is_put(rt: HostRuntime) -> Result<(), Fail> {
     assert!(rt; resolver.is_initial());
     assert_eq!(rt; told(alloc, &resolver)?.as_str(), "false false None");
     resolver.config_mut().put(alloc, Setting::Capture(1))?;
-    assert_eq!(rt; told(alloc, &resolver)?.as_str(), "true true Some(Capture(1))");
+    assert_eq!(rt;
+        told(alloc, &resolver)?.as_str(),
+        "true true Some(Capture(1))"
+    );
     resolver.runtime_components_mut().sleep = true;
     assert!(rt; resolver.latest_sleep_impl());
     Ok(())
@@ -238,11 +252,20 @@ fn overridden(
 fn an_overriding_resolver_falls_back_to_the_initial_layer(rt: HostRuntime) -> Result<(), Fail> {
     let alloc = rt.alloc();
     let below = overridden(alloc, capturing(alloc, 1)?.freeze(), CloneableLayer::new())?;
-    assert_eq!(rt; below.as_str(), "(false, true, false) false true Some(Capture(1))");
+    assert_eq!(rt;
+        below.as_str(),
+        "(false, true, false) false true Some(Capture(1))"
+    );
     let latest = overridden(alloc, CloneableLayer::new().freeze(), capturing(alloc, 2)?)?;
-    assert_eq!(rt; latest.as_str(), "(false, true, false) true true Some(Capture(2))");
+    assert_eq!(rt;
+        latest.as_str(),
+        "(false, true, false) true true Some(Capture(2))"
+    );
     let both = overridden(alloc, capturing(alloc, 1)?.freeze(), capturing(alloc, 2)?)?;
-    assert_eq!(rt; both.as_str(), "(false, true, false) true true Some(Capture(2))");
+    assert_eq!(rt;
+        both.as_str(),
+        "(false, true, false) true true Some(Capture(2))"
+    );
     Ok(())
 }
 
