@@ -63,7 +63,7 @@ impl Walk {
         let Some(change) = change else {
             return Ok(());
         };
-        make_change(&mut self.view, change.clone()?);
+        make_change(&mut self.view, &change)?;
         self.answer.change = Some(change);
         Ok(())
     }
@@ -81,15 +81,16 @@ impl Walk {
 }
 
 // Makes the change.
-fn make_change(view: &mut HookView, change: Change)
-    ensures { view.new ≡ with_change view.old (Some change) }
+fn make_change(view: &mut HookView, change: &Change) -> Result<(), OutOfMemory>
+    ensures { OnOk result (view.new ≡ with_change view.old (Some change.now)) }
 {
     match change {
-        Change::Input(input) => view.input = Some(input),
-        Change::Request(request) => view.request = Some(request),
-        Change::Response(response) => view.response = Some(response),
-        Change::Outcome(outcome) => view.outcome = Some(outcome),
+        Change::Input(input) => view.input = Some(input.clone()?),
+        Change::Request(request) => view.request = Some(request.clone()?),
+        Change::Response(response) => view.response = Some(response.clone()?),
+        Change::Outcome(outcome) => view.outcome = Some(outcome.get().clone()?),
     }
+    Ok(())
 }
 
 // Makes each key that the second layer mentions stand so in the first.
