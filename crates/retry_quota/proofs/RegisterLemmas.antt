@@ -12,8 +12,9 @@ use Rattle.smithy_types.specs.declared.partition.RetryPartition.{RetryPartition}
 use Rattle.retry_quota.proofs.TableLemmas.{lookup-new, lookup-other}
 use Rattle.std.proofs.lemmas.Map.Entries.{All-lookup}
 use Rattle.std.proofs.lemmas.Option.{slice_get_read}
+use Rattle.smithy_types.specs.declared.config.RetrySpec.{RetrySpec}
 use Rattle.smithy_types.specs.declared.kinds.ErrorKind.{ErrorKind}
-use Rattle.retry_quota.specs.Book.{Book, cost_of, release, forget, plain_book}
+use Rattle.retry_quota.specs.Book.{Book, cost_of, release, forget, plain_book, default_book}
 use Rattle.retry_quota.specs.History.{Step, Reply, Done, Release, Forget, after, reply_to}
 use Rattle.retry_quota.specs.Meaning.{Meaning, KeepsBuckets, IsKept, Steps, Settles, ChangesLimiter, AddsBucket, AnswersBucket, AddsLimiter, AnswersLimiter, BucketIsThere, LimiterIsThere}
 use Rattle.retry_quota.specs.Place.{change_at}
@@ -171,17 +172,17 @@ lt_next n = grind (arith, nat_tests)
 length_last : {X : Type 0} → (xs : List X) (x : X) → length (xs ++ x ∷ []) ≡ length xs + 1
 length_last xs x = length-append xs (x ∷ [])
 
-bucket_added : {L : Type 0} → (r : Registers L) (p : RetryPartition) → lookup (same_partition p) r.bucket_names ≡ None
-    → AddsBucket (meaning_of r) p (length r.books)
-    (meaning_of (record r { books = r.books ++ plain_book 500 ∷ []; bucket_names = r.bucket_names ++ (p, length r.books) ∷ [] }))
-bucket_added r p none = record {
+bucket_added : {L : Type 0} → (r : Registers L) (p : RetryPartition) (book : Book) → lookup (same_partition p) r.bucket_names ≡ None
+    → AddsBucket (meaning_of r) p book (length r.books)
+    (meaning_of (record r { books = r.books ++ book ∷ []; bucket_names = r.bucket_names ++ (p, length r.books) ∷ [] }))
+bucket_added r p book none = record {
   new = not_lt_itself (length r.books);
-  there = ap (λ n. nat_lt (length r.books) n) (length_last r.books (plain_book 500)) ∙ lt_next (length r.books);
-  others_there = λ i other. ap (λ n. nat_lt i n) (length_last r.books (plain_book 500)) ∙ lt_more i (length r.books) other;
-  cost = λ kind. ap (λ o. option_map_or (cost_of kind) o 0) (slice_get-last r.books (plain_book 500));
-  other_costs = λ i kind other. ap (λ o. option_map_or (cost_of kind) o 0) (slice_get-before r.books (plain_book 500) i other);
-  reward = ap (λ o. option_map_or (λ b. b.reward) o 0) (slice_get-last r.books (plain_book 500));
-  other_rewards = λ i other. ap (λ o. option_map_or (λ b. b.reward) o 0) (slice_get-before r.books (plain_book 500) i other);
+  there = ap (λ n. nat_lt (length r.books) n) (length_last r.books book) ∙ lt_next (length r.books);
+  others_there = λ i other. ap (λ n. nat_lt i n) (length_last r.books book) ∙ lt_more i (length r.books) other;
+  cost = λ kind. ap (λ o. option_map_or (cost_of kind) o 0) (slice_get-last r.books book);
+  other_costs = λ i kind other. ap (λ o. option_map_or (cost_of kind) o 0) (slice_get-before r.books book i other);
+  reward = ap (λ o. option_map_or (λ b. b.reward) o 0) (slice_get-last r.books book);
+  other_rewards = λ i other. ap (λ o. option_map_or (λ b. b.reward) o 0) (slice_get-before r.books book i other);
   books = refl;
   named = lookup-new (same_partition p) p (length r.books) r.bucket_names none (same_refl p);
   other_names = λ q other. lookup-other (same_partition q) p (length r.books) r.bucket_names other;
@@ -191,25 +192,26 @@ bucket_added r p none = record {
 }
 
 -- a default partition without a bucket gets a new one
-pub bucket_answered : {L : Type 0} → (r s : Registers L) (p : RetryPartition) (number : ℕ) (books : List Book) (names : List (RetryPartition × ℕ))
+pub bucket_answered : {L : Type 0} → (r s : Registers L) (p : RetryPartition) (spec : Option RetrySpec) (number : ℕ) (books : List Book) (names : List (RetryPartition × ℕ))
     → r ≡ s → p.custom ≡ None → lookup (same_partition p) r.bucket_names ≡ None → number ≡ length r.books
-    → books ≡ r.books ++ plain_book 500 ∷ [] → names ≡ r.bucket_names ++ (p, number) ∷ []
-    → AnswersBucket (meaning_of s) p number (meaning_of (record r { books = books; bucket_names = names }))
-bucket_answered {L} r s p number books names same default none is_next added named =
-    let next : AddsBucket (meaning_of r) p number (meaning_of (record r { books = r.books ++ plain_book 500 ∷ []; bucket_names = r.bucket_names ++ (p, number) ∷ [] })) =
-    subst (λ n. AddsBucket (meaning_of r) p n (meaning_of (record r { books = r.books ++ plain_book 500 ∷ []; bucket_names = r.bucket_names ++ (p, n) ∷ [] })))
-    (sym is_next) (bucket_added r p none) in
-    let with_books : AddsBucket (meaning_of r) p number (meaning_of (record r { books = books; bucket_names = r.bucket_names ++ (p, number) ∷ [] })) =
-    subst (λ (bs : List Book). AddsBucket (meaning_of r) p number (meaning_of (record r { books = bs; bucket_names = r.bucket_names ++ (p, number) ∷ [] }))) (sym added) next in
-    let with_names : AddsBucket (meaning_of r) p number (meaning_of (record r { books = books; bucket_names = names })) =
-    subst (λ (ns : List (RetryPartition × ℕ)). AddsBucket (meaning_of r) p number (meaning_of (record r { books = books; bucket_names = ns }))) (sym named) with_books in
+    → books ≡ r.books ++ default_book spec ∷ [] → names ≡ r.bucket_names ++ (p, number) ∷ []
+    → AnswersBucket (meaning_of s) p spec number (meaning_of (record r { books = books; bucket_names = names }))
+bucket_answered {L} r s p spec number books names same default none is_next added named =
+    let book : Book = default_book spec in
+    let next : AddsBucket (meaning_of r) p book number (meaning_of (record r { books = r.books ++ book ∷ []; bucket_names = r.bucket_names ++ (p, number) ∷ [] })) =
+    subst (λ n. AddsBucket (meaning_of r) p book n (meaning_of (record r { books = r.books ++ book ∷ []; bucket_names = r.bucket_names ++ (p, n) ∷ [] })))
+    (sym is_next) (bucket_added r p book none) in
+    let with_books : AddsBucket (meaning_of r) p book number (meaning_of (record r { books = books; bucket_names = r.bucket_names ++ (p, number) ∷ [] })) =
+    subst (λ (bs : List Book). AddsBucket (meaning_of r) p book number (meaning_of (record r { books = bs; bucket_names = r.bucket_names ++ (p, number) ∷ [] }))) (sym added) next in
+    let with_names : AddsBucket (meaning_of r) p book number (meaning_of (record r { books = books; bucket_names = names })) =
+    subst (λ (ns : List (RetryPartition × ℕ)). AddsBucket (meaning_of r) p book number (meaning_of (record r { books = books; bucket_names = ns }))) (sym named) with_books in
     let after : Meaning L = meaning_of (record r { books = books; bucket_names = names }) in
-    let unknown : MatchOption (lookup (same_partition p) r.bucket_names) (AddsBucket (meaning_of r) p number after) (λ known. (number ≡ known) × IsKept (meaning_of r) after) =
-    subst (λ o. MatchOption o (AddsBucket (meaning_of r) p number after) (λ known. (number ≡ known) × IsKept (meaning_of r) after)) (sym none) with_names in
-    let answered : AnswersBucket (meaning_of r) p number after =
-    subst (λ o. MatchOption o (MatchOption (lookup (same_partition p) r.bucket_names) (AddsBucket (meaning_of r) p number after) (λ known. (number ≡ known) × IsKept (meaning_of r) after))
+    let unknown : MatchOption (lookup (same_partition p) r.bucket_names) (AddsBucket (meaning_of r) p book number after) (λ known. (number ≡ known) × IsKept (meaning_of r) after) =
+    subst (λ o. MatchOption o (AddsBucket (meaning_of r) p book number after) (λ known. (number ≡ known) × IsKept (meaning_of r) after)) (sym none) with_names in
+    let answered : AnswersBucket (meaning_of r) p spec number after =
+    subst (λ o. MatchOption o (MatchOption (lookup (same_partition p) r.bucket_names) (AddsBucket (meaning_of r) p book number after) (λ known. (number ≡ known) × IsKept (meaning_of r) after))
     (λ numbers. (number ≡ numbers.bucket) × IsKept (meaning_of r) after)) (sym default) unknown in
-    subst (λ (t : Registers L). AnswersBucket (meaning_of t) p number after) same answered
+    subst (λ (t : Registers L). AnswersBucket (meaning_of t) p spec number after) same answered
 
 -- a number that is kept under a partition is below the count
 known_below : (count : ℕ) (names : List (RetryPartition × ℕ)) (p : RetryPartition) (number : ℕ)
@@ -241,16 +243,16 @@ limiter_there {L} r s p number same below known =
     (if_none (number < length r.limiters) p.custom within)
 
 -- a default partition with a bucket has that one
-pub bucket_known : {L : Type 0} → (r s : Registers L) (p : RetryPartition) (number : ℕ)
+pub bucket_known : {L : Type 0} → (r s : Registers L) (p : RetryPartition) (spec : Option RetrySpec) (number : ℕ)
     → r ≡ s → p.custom ≡ None → lookup (same_partition p) r.bucket_names ≡ Some number
-    → AnswersBucket (meaning_of s) p number (meaning_of s)
-bucket_known {L} r s p number same default known =
-    let found : MatchOption (lookup (same_partition p) r.bucket_names) (AddsBucket (meaning_of r) p number (meaning_of r)) (λ other. (number ≡ other) × IsKept (meaning_of r) (meaning_of r)) =
-    subst (λ o. MatchOption o (AddsBucket (meaning_of r) p number (meaning_of r)) (λ other. (number ≡ other) × IsKept (meaning_of r) (meaning_of r))) (sym known) (refl, kept r) in
-    let answered : AnswersBucket (meaning_of r) p number (meaning_of r) =
-    subst (λ o. MatchOption o (MatchOption (lookup (same_partition p) r.bucket_names) (AddsBucket (meaning_of r) p number (meaning_of r)) (λ other. (number ≡ other) × IsKept (meaning_of r) (meaning_of r)))
+    → AnswersBucket (meaning_of s) p spec number (meaning_of s)
+bucket_known {L} r s p spec number same default known =
+    let found : MatchOption (lookup (same_partition p) r.bucket_names) (AddsBucket (meaning_of r) p (default_book spec) number (meaning_of r)) (λ other. (number ≡ other) × IsKept (meaning_of r) (meaning_of r)) =
+    subst (λ o. MatchOption o (AddsBucket (meaning_of r) p (default_book spec) number (meaning_of r)) (λ other. (number ≡ other) × IsKept (meaning_of r) (meaning_of r))) (sym known) (refl, kept r) in
+    let answered : AnswersBucket (meaning_of r) p spec number (meaning_of r) =
+    subst (λ o. MatchOption o (MatchOption (lookup (same_partition p) r.bucket_names) (AddsBucket (meaning_of r) p (default_book spec) number (meaning_of r)) (λ other. (number ≡ other) × IsKept (meaning_of r) (meaning_of r)))
     (λ numbers. (number ≡ numbers.bucket) × IsKept (meaning_of r) (meaning_of r))) (sym default) found in
-    subst (λ (t : Registers L). AnswersBucket (meaning_of t) p number (meaning_of t)) same answered
+    subst (λ (t : Registers L). AnswersBucket (meaning_of t) p spec number (meaning_of t)) same answered
 
 at_most_one : {X : Type 0} → (o : Option X) → length (option_to_list o) ≤ 1
 at_most_one None = omega arith

@@ -1,8 +1,11 @@
 -- A token bucket as a book of plain sums: what it is, and what each step makes of it.
-use Rattle.std.specs.Prelude.{◌≡◌, ℕ, ◌+◌, ◌-◌, ◌*◌, ◌/◌, ◌%◌, ◌^◌, ◌<◌, ◌≤◌, ◌==◌, ◌&&◌, Bool, not, if◌then◌else◌, nat_lt, nat_le, min}
+use Rattle.std.specs.Prelude.{◌≡◌, ℕ, ◌+◌, ◌-◌, ◌*◌, ◌/◌, ◌%◌, ◌^◌, ◌<◌, ◌≤◌, ◌==◌, ◌&&◌, Bool, not, if◌then◌else◌, nat_lt, nat_le, min, Option, None, Some}
 use Rattle.smithy_types.specs.declared.kinds.ErrorKind.{ErrorKind}
 use Rattle.smithy_types.specs.declared.kinds.ErrorKind.TheVariants.{TransientError, ThrottlingError, ServerError, ClientError}
 use Rattle.smithy_types.specs.declared.sums.Sums.{Sums}
+use Rattle.smithy_types.specs.declared.config.RetrySpec.{RetrySpec}
+use Rattle.smithy_types.specs.declared.config.RetrySpecVersion.{RetrySpecVersion}
+use Rattle.smithy_types.specs.declared.config.RetrySpecVersion.TheVariants.{V2_0, V2_1}
 use Rattle.retry_quota.specs.declared.TheConstants.{MAXIMUM_CAPACITY}
 
 -- whole tokens, but for the reward, the rate and the fraction, which are thousandths of a token
@@ -69,6 +72,15 @@ opening capacity retry_cost throttling_cost transient_cost reward rate = record 
 -- a book of this capacity with the default costs, without a reward and without a refill
 abbrev pub plain_book : ℕ → Book
 plain_book capacity = opening capacity 5 5 10 0 0
+
+-- the book of a default partition's bucket, by the specification under which the partition comes first
+abbrev pub version_book : RetrySpecVersion → Book
+version_book V2_0 = plain_book 500
+version_book V2_1 = opening 500 14 5 14 0 0
+
+abbrev pub default_book : Option RetrySpec → Book
+default_book None = plain_book 500
+default_book (Some spec) = version_book spec.version
 
 abbrev pub cost_of : ErrorKind → Book → ℕ
 cost_of TransientError b = b.transient_cost

@@ -1,4 +1,5 @@
 pub mod Book
+pub mod Calls
 pub mod History
 pub mod Meaning
 pub mod Place

@@ -2,9 +2,10 @@
 use Rattle.std.specs.Prelude.{◌≡◌, ℕ, Bool, false, true, nat_lt, IsTrue, List, [], ◌∷◌, ◌++◌, Option, None, Some, IfSome, slice_get, length, option_map, MatchOption, ◌≢◌, ◌<◌}
 use Rattle.std.specs.Option.{IfNone}
 use Rattle.smithy_types.specs.declared.kinds.ErrorKind.{ErrorKind}
+use Rattle.smithy_types.specs.declared.config.RetrySpec.{RetrySpec}
 use Rattle.smithy_types.specs.Partition.{same_partition}
 use Rattle.smithy_types.specs.declared.partition.RetryPartition.{RetryPartition}
-use Rattle.retry_quota.specs.Book.{Book, cost_of, plain_book}
+use Rattle.retry_quota.specs.Book.{Book, cost_of, default_book}
 use Rattle.retry_quota.specs.History.{Step, Reply, Done, Entry, after, reply_to}
 use Rattle.retry_quota.specs.Place.{change_at}
 
@@ -83,26 +84,27 @@ book_in (Some books) bucket = slice_get books bucket
 abbrev pub book_at : {L : Type 0} → Meaning L → ℕ → Option Book
 book_at m bucket = book_in m.books bucket
 
--- a default bucket is added under the partition, and nothing else changes
-pub record AddsBucket {L : Type 0} (m : Meaning L) (partition : RetryPartition) (number : ℕ) (n : Meaning L) : Type 0 where
+-- a bucket with this book is added under the partition, and nothing else changes
+pub record AddsBucket {L : Type 0} (m : Meaning L) (partition : RetryPartition) (book : Book) (number : ℕ) (n : Meaning L) : Type 0 where
   pub new : m.has number ≡ false
   pub there : n.has number ≡ true
   pub others_there : (bucket : ℕ) → bucket ≢ number → n.has bucket ≡ m.has bucket
-  pub cost : (kind : ErrorKind) → n.cost number kind ≡ cost_of kind (plain_book 500)
+  pub cost : (kind : ErrorKind) → n.cost number kind ≡ cost_of kind book
   pub other_costs : (bucket : ℕ) (kind : ErrorKind) → bucket ≢ number → n.cost bucket kind ≡ m.cost bucket kind
-  pub reward : n.reward number ≡ 0
+  pub reward : n.reward number ≡ book.reward
   pub other_rewards : (bucket : ℕ) → bucket ≢ number → n.reward bucket ≡ m.reward bucket
-  pub books : n.books ≡ option_map (λ books. books ++ plain_book 500 ∷ []) m.books
+  pub books : n.books ≡ option_map (λ books. books ++ book ∷ []) m.books
   pub named : n.bucket_of partition ≡ Some number
   pub other_names : (other : RetryPartition) → same_partition other partition ≡ false → n.bucket_of other ≡ m.bucket_of other
   pub limiter_of : (other : RetryPartition) → n.limiter_of other ≡ m.limiter_of other
   pub entries : n.entries ≡ m.entries
   pub limiters : n.limiters ≡ m.limiters
 
--- a custom partition's bucket; for a default one the bucket that is kept under it, or a new one
-abbrev pub AnswersBucket : {L : Type 0} → Meaning L → RetryPartition → ℕ → Meaning L → Type 0
-AnswersBucket m partition number n = MatchOption partition.custom
-    (MatchOption (m.bucket_of partition) (AddsBucket m partition number n) (λ known. (number ≡ known) × IsKept m n))
+-- a custom partition's bucket; for a default one the bucket that is kept under it, or a new one, which is that of the
+-- specification
+abbrev pub AnswersBucket : {L : Type 0} → Meaning L → RetryPartition → Option RetrySpec → ℕ → Meaning L → Type 0
+AnswersBucket m partition spec number n = MatchOption partition.custom
+    (MatchOption (m.bucket_of partition) (AddsBucket m partition (default_book spec) number n) (λ known. (number ≡ known) × IsKept m n))
     (λ numbers. (number ≡ numbers.bucket) × IsKept m n)
 
 -- the bucket of a default partition is there; of the number that a custom one brings nothing is said

@@ -14,7 +14,7 @@ pub mod token_bucket;
 
 pub use builder::TokenBucketBuilder;
 pub use error::QuotaError;
-pub use limiter::{Limiter, OpenLimiter, RequestReason};
+pub use limiter::{Limiter, RequestReason};
 pub use partition_table::PartitionTable;
 pub use permit::Permit;
 pub use quota::Quota;

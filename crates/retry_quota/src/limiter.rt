@@ -1,4 +1,4 @@
-ghost use Rattle.std.specs.Prelude.{◌≡◌, ℕ, Bool, Result, Ok};
+ghost use Rattle.std.specs.Prelude.{◌≡◌, ℕ, Bool, Result};
 
 /// What a request asks a limiter for.
 #[derive(Clone, Copy, Debug, PartialEq, Eq)]
@@ -46,34 +46,4 @@ pub trait Limiter: Drop {
     /// Tells the limiter of a response at this moment, and whether it was throttled.
     fn update(&mut self, now: u64, throttled: bool)
         ensures { self.new ≡ after_update self.old now throttled };
-}
-
-/// A limiter that refuses nothing.
-#[derive(Debug, Drop)]
-pub struct OpenLimiter;
-
-impl Limiter for OpenLimiter {
-    ghost at = { λ _. record {} };
-
-    ghost zero = { record {} };
-
-    ghost after_acquire = { λ limiter _ _. limiter };
-
-    ghost reply_to = { λ _ _ _. Ok tt };
-
-    ghost after_update = { λ limiter _ _. limiter };
-
-    fn at(_now: u64) -> OpenLimiter {
-        OpenLimiter
-    }
-
-    fn zero() -> OpenLimiter {
-        OpenLimiter
-    }
-
-    fn acquire(&mut self, _now: u64, _reason: RequestReason) -> Result<(), u64> {
-        Ok(())
-    }
-
-    fn update(&mut self, _now: u64, _throttled: bool) {}
 }

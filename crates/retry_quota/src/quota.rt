@@ -1,4 +1,4 @@
-ghost use Rattle.std.specs.Prelude.{◌≡◌, ℕ, IsTrue, IfSome, IfOk, OnErr, Option, slice_get, option_map, Ok};
+ghost use Rattle.std.specs.Prelude.{◌≡◌, ℕ, IsTrue, IfSome, IfOk, OnErr, Option, slice_get, option_map, option_copied, Ok};
 ghost use Rattle.std.specs.Option.{option_map_or};
 ghost use Rattle.retry_quota.specs.Book.{sums_of};
 ghost use Rattle.retry_quota.specs.History.{Acquire, Release, Forget, Reward, Regenerate, Done, acquire_reply};
@@ -70,15 +70,15 @@ pub trait Quota {
         ensures { result ≡ option_map sums_of (book_at (meaning self.now) bucket) };
 
     /// The number of the partition's bucket: a custom one brings it. For a default one it is the
-    /// bucket that is kept under its name, and a default bucket is added where the name is new. A
-    /// default partition's bucket is there.
+    /// bucket that is kept under its name, and where the name is new a bucket is added as the
+    /// specification has it. A default partition's bucket is there.
     fn bucket_for(
         &mut self,
         alloc: Global,
         partition: &RetryPartition,
         spec: Option<&RetrySpec>,
     ) -> Result<u32, OutOfMemory>
-        ensures ok { IfOk result (λ number. AnswersBucket (meaning self.old) partition.now number (meaning self.new)) }
+        ensures ok { IfOk result (λ number. AnswersBucket (meaning self.old) partition.now (option_copied spec.entry) number (meaning self.new)) }
         ensures there { IfOk result (λ number. BucketIsThere (meaning self.new) partition.now number) }
         ensures err { OnErr result (IsKept (meaning self.old) (meaning self.new)) };
 

@@ -1,13 +1,18 @@
-ghost use Rattle.std.specs.Prelude.{◌≡◌, ◌++◌, ◌∷◌, [], length, IfOk, IsOkAnd, OnOk, OnErr, None};
+ghost use Rattle.std.specs.Prelude.{◌≡◌, ◌++◌, ◌∷◌, [], length, IfOk, IsOkAnd, OnOk, OnErr, None, option_copied};
+ghost use Rattle.retry_quota.specs.Book.{default_book, version_book};
 ghost use Rattle.std.specs.Map.{lookup};
 ghost use Rattle.smithy_types.specs.Partition.{same_partition};
 
 use crate::{Limiter, PartitionTable, Permit, Quota, RequestReason, Sums, TokenBucket};
 use smithy_types::{
     CustomPartition, ErrorKind, OutOfMemory, PartitionRegistry, RetryPartition, RetrySpec,
+    RetrySpecVersion,
 };
 use std::alloc::Global;
 use std::marker::Model;
+
+/// What a retry costs under version 2.1 of the specification, but after throttling.
+const V2_1_RETRY_COST: u32 = 14;
 
 /// The buckets and the limiters of one thread, by their numbers.
 #[derive(Drop)]
@@ -85,6 +90,29 @@ impl<L: Limiter> Registry<L> {
             Some(book) => permit.amount as u64 <= book.sums().held,
             None => false,
         }
+    }
+}
+
+// The bucket of a default partition that comes first under this specification.
+fn default_bucket(spec: Option<&RetrySpec>) -> TokenBucket
+    ensures { result ≡ default_book (option_copied spec.entry) }
+{
+    match spec {
+        Some(spec) => version_bucket(spec.version),
+        None => TokenBucket::default(),
+    }
+}
+
+// The bucket that this version of the specification asks for.
+fn version_bucket(version: RetrySpecVersion) -> TokenBucket
+    ensures { result ≡ version_book version }
+{
+    match version {
+        RetrySpecVersion::V2_0 => TokenBucket::default(),
+        RetrySpecVersion::V2_1 => TokenBucket::builder()
+            .retry_cost(V2_1_RETRY_COST)
+            .timeout_retry_cost(V2_1_RETRY_COST)
+            .build(),
     }
 }
 
@@ -247,7 +275,7 @@ impl<L: Limiter> Quota for Registry<L> {
         &mut self,
         alloc: Global,
         partition: &RetryPartition,
-        _spec: Option<&RetrySpec>,
+        spec: Option<&RetrySpec>,
     ) -> Result<u32, OutOfMemory> {
         if let Some(numbers) = partition.custom {
             return Ok(numbers.bucket);
@@ -255,7 +283,7 @@ impl<L: Limiter> Quota for Registry<L> {
         if let Some(number) = self.bucket_names.get(alloc, partition)? {
             return Ok(number);
         }
-        let bucket = TokenBucket::default();
+        let bucket = default_bucket(spec);
         let number = add_named(
             &mut self.buckets,
             &mut self.bucket_names,

@@ -1,3 +1,4 @@
+pub mod Chain
 pub mod HeaderList
 pub mod ListItems
 pub mod Partition

@@ -7,9 +7,13 @@ use crate::{ErrorKind, Payload, Wire};
 pub trait ProvideErrorKind: Wire {
     ghost use Rattle.std.specs.Prelude.{◌≡◌, Option, None, true, false};
     ghost use Rattle.smithy_types.specs.declared.kinds.ErrorKind.{ErrorKind};
+    ghost use Rattle.smithy_types.specs.declared.payload.Payload.{Payload};
 
     /// The kind of an error. None where the error tells nothing of a retry.
     ghost kind: { Self → Option ErrorKind };
+
+    /// The kind of the error that a payload reads as. None also where the payload isn't accepted.
+    ghost kind_in: { Payload → Option ErrorKind };
 
     /// The kind of this error. None where it tells nothing of a retry.
     fn retryable_error_kind(&self) -> Option<ErrorKind>
@@ -20,6 +24,7 @@ pub trait ProvideErrorKind: Wire {
     fn kind_of(payload: &Payload) -> Option<ErrorKind>
     where
         Self: Sized,
+        ensures value { result ≡ kind_in payload.now }
         ensures accepted { Self.accepts payload.now ≡ true → (error : Self) × Self.reads_as payload.now error × (result ≡ kind error) }
         ensures refused { Self.accepts payload.now ≡ false → result ≡ None };
 }

@@ -1,10 +1,39 @@
-ghost use Rattle.std.specs.Prelude.{◌≡◌, None};
+ghost use Rattle.std.specs.Prelude.{◌≡◌, None, Ok};
 
 use super::*;
-use crate::OpenLimiter;
 use smithy_types::Text;
 use std::hash::{DefaultHasher, Hash, Hasher};
 use std::test::Fail;
+
+/// A limiter that refuses nothing.
+#[derive(Debug, Drop)]
+pub struct FreeLimiter;
+
+impl Limiter for FreeLimiter {
+    ghost at = { λ _. record {} };
+
+    ghost zero = { record {} };
+
+    ghost after_acquire = { λ limiter _ _. limiter };
+
+    ghost reply_to = { λ _ _ _. Ok tt };
+
+    ghost after_update = { λ limiter _ _. limiter };
+
+    fn at(_now: u64) -> FreeLimiter {
+        FreeLimiter
+    }
+
+    fn zero() -> FreeLimiter {
+        FreeLimiter
+    }
+
+    fn acquire(&mut self, _now: u64, _reason: RequestReason) -> Result<(), u64> {
+        Ok(())
+    }
+
+    fn update(&mut self, _now: u64, _throttled: bool) {}
+}
 
 // Each call once through the trait alone, where the bucket is there.
 
@@ -95,7 +124,7 @@ fn default_partition(name: &'static str) -> RetryPartition
 
 // A custom partition `test`, whose numbers may be set.
 fn custom_partition(
-    registry: &mut Registry<OpenLimiter>,
+    registry: &mut Registry<FreeLimiter>,
     alloc: Global,
     bucket: Option<u32>,
 ) -> Result<RetryPartition, OutOfMemory> {
@@ -107,7 +136,7 @@ fn custom_partition(
 }
 
 fn custom_numbers(
-    registry: &mut Registry<OpenLimiter>,
+    registry: &mut Registry<FreeLimiter>,
     alloc: Global,
     bucket: Option<u32>,
 ) -> Result<(u32, u32), OutOfMemory> {
@@ -116,7 +145,7 @@ fn custom_numbers(
 }
 
 // A bucket of 20 tokens, and one of 10 with a reward of two tokens.
-fn two_buckets(alloc: Global) -> Result<Registry<OpenLimiter>, OutOfMemory> {
+fn two_buckets(alloc: Global) -> Result<Registry<FreeLimiter>, OutOfMemory> {
     let mut registry = Registry::new(alloc)?;
     let plain = TokenBucket::builder().capacity(20).build();
     let _ = registry.add_bucket(alloc, plain)?;
@@ -129,7 +158,7 @@ fn two_buckets(alloc: Global) -> Result<Registry<OpenLimiter>, OutOfMemory> {
 }
 
 // Three acquires: one is released, one forgotten, and the last stays held.
-fn spend(registry: &mut Registry<OpenLimiter>, bucket: u32) {
+fn spend(registry: &mut Registry<FreeLimiter>, bucket: u32) {
     let _ = acquire_and_release(registry, bucket);
     let _ = acquire_and_forget(registry, bucket);
     reward(registry, bucket);
@@ -177,8 +206,8 @@ fn a_foreign_permit_changes_nothing(rt: HostRuntime) {
 }
 
 fn limiter_replies(alloc: Global) -> Result<[Result<(), u64>; 2], OutOfMemory> {
-    let mut registry = Registry::<OpenLimiter>::new(alloc)?;
-    let _ = registry.add_limiter(alloc, OpenLimiter::zero())?;
+    let mut registry = Registry::<FreeLimiter>::new(alloc)?;
+    let _ = registry.add_limiter(alloc, FreeLimiter::zero())?;
     registry.limiter_update(0, 5, true);
     registry.limiter_update(1, 5, true);
     Ok([
@@ -188,7 +217,7 @@ fn limiter_replies(alloc: Global) -> Result<[Result<(), u64>; 2], OutOfMemory> {
 }
 
 #[test]
-fn an_open_limiter_and_one_that_is_not_there_refuse_nothing(rt: HostRuntime) {
+fn a_free_limiter_and_one_that_is_not_there_refuse_nothing(rt: HostRuntime) {
     assert_eq!(rt; limiter_replies(rt.alloc()), Ok([Ok(()), Ok(())]));
 }
 

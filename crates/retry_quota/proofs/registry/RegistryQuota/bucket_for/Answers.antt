@@ -9,7 +9,7 @@ returns-in-Some-2-clause-there g c =
 
 pub returns-clause-ok : goal.returns-clause-ok
 returns-clause-ok g c =
-    bucket_answered _ _ c.args.partition.now c.in_ok-number-2.number _ _ c.self.view_is c.in_default.is
+    bucket_answered _ _ c.args.partition.now _ c.in_ok-number-2.number _ _ c.self.view_is c.in_default.is
     (sym c.in_ok-number.ensures ∙ c.in_default-2.is) c.in_ok-number-2.ensures.number
-    (c.in_ok-number-2.ensures.items ∙ ap (λ b. c.self.inside.buckets.items ++ b ∷ []) c.default-bucket.ensures)
+    (c.in_ok-number-2.ensures.items ∙ ap (λ b. c.self.inside.buckets.items ++ b ∷ []) c.default_bucket-bucket.ensures)
     c.in_ok-number-2.ensures.names

@@ -1,0 +1,2 @@
+mod CubeRootLemmas
+mod SoundLemmas

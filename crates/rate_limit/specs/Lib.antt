@@ -1,0 +1,5 @@
+pub mod Builder
+pub mod CubeRoot
+pub mod Curve
+pub mod Pace
+pub mod Steps

@@ -1,0 +1,14 @@
+//! Whether a failed attempt is made again: classifiers that say what a failure is, and strategies
+//! that pay for a further attempt from a quota.
+#![tactic(auto)]
+
+pub mod classify;
+pub mod modeled;
+pub mod status;
+pub mod transient;
+
+pub use classify::{Classifier, ClassifyRetry, run_classifiers_on_ctx};
+pub use modeled::ModeledAsRetryableClassifier;
+pub use smithy_types::RetryAction;
+pub use status::HttpStatusCodeClassifier;
+pub use transient::TransientErrorClassifier;
