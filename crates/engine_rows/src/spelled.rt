@@ -70,25 +70,29 @@ impl Spelled {
             Spelled::LoadsBody => Answer::Layer(layer(alloc, Setting::LoadBody(true))?),
             Spelled::HookFailed(text) => hook_failed(text),
             Spelled::HookTimeout(nanos) => hook_timeout(alloc, nanos)?,
-            Spelled::Request(uri) => request(uri, Body::Bytes(question(alloc)?)),
-            Spelled::OnceRequest(uri) => request(uri, Body::Once(question(alloc)?)),
+            Spelled::Request(uri) => request(alloc, uri, Body::Bytes(question(alloc)?))?,
+            Spelled::OnceRequest(uri) => request(alloc, uri, Body::Once(question(alloc)?))?,
             Spelled::Go => Answer::Go,
             Spelled::Delay(nanos) => Answer::Delay(nanos),
             Spelled::Started => Answer::Started,
             Spelled::Ready => Answer::Ready,
-            Spelled::Chosen => chosen(),
+            Spelled::Chosen => chosen(alloc)?,
             Spelled::Endpoint(url) => endpoint(alloc, url)?,
             Spelled::Response(status, body) => response(alloc, status, body)?,
             Spelled::NotStreaming => Answer::NotStreaming,
             Spelled::Read(body) => Answer::Read(blob(alloc, body)?),
             Spelled::Output(kind, bytes) => {
-                Answer::Outcome(Outcome::Output(payload(alloc, kind, bytes)?))
+                outcome(alloc, Outcome::Output(payload(alloc, kind, bytes)?))?
             }
             Spelled::OutcomeConnector(text) => {
-                outcome_failed(FaultKind::Connector(ConnectorKind::Io), text)
+                outcome_failed(alloc, FaultKind::Connector(ConnectorKind::Io), text)?
             }
             Spelled::OutcomeService(kind, bytes, text) => {
-                outcome_failed(FaultKind::Operation(payload(alloc, kind, bytes)?), text)
+                outcome_failed(
+                    alloc,
+                    FaultKind::Operation(payload(alloc, kind, bytes)?),
+                    text,
+                )?
             }
             Spelled::Decided(choice) => Answer::Decided(choice, None),
             Spelled::Parked => Answer::Parked,
@@ -153,26 +157,28 @@ fn hook_timeout(alloc: Global, nanos: u64) -> Result<Answer, OutOfMemory> {
     }))
 }
 
-fn request(uri: &'static str, body: Body) -> Answer {
-    Answer::Request(HttpRequest {
+fn request(alloc: Global, uri: &'static str, body: Body) -> Result<Answer, OutOfMemory> {
+    let request = HttpRequest {
         method: Text::from_static("GET"),
         uri: Text::from_static(uri),
         headers: Headers::new(),
         body,
-    })
+    };
+    Ok(Answer::Request(Shared::new(alloc, request)?))
 }
 
-fn chosen() -> Answer {
-    Answer::Chosen(Chosen {
+fn chosen(alloc: Global) -> Result<Answer, OutOfMemory> {
+    let identity = Identity {
+        content: Blob::new(),
+        expiration: None,
+    };
+    Ok(Answer::Chosen(Chosen {
         scheme: Text::from_static("noAuth"),
-        identity: Identity {
-            content: Blob::new(),
-            expiration: None,
-        },
+        identity: Shared::new(alloc, identity)?,
         endpoint: None,
         settings: Layer::new(),
         note: None,
-    })
+    }))
 }
 
 fn endpoint(alloc: Global, url: &'static str) -> Result<Answer, OutOfMemory> {
@@ -185,14 +191,23 @@ fn endpoint(alloc: Global, url: &'static str) -> Result<Answer, OutOfMemory> {
 }
 
 fn response(alloc: Global, status: u16, body: &str) -> Result<Answer, OutOfMemory> {
-    Ok(Answer::Response(HttpResponse {
+    let response = HttpResponse {
         status,
         headers: Headers::new(),
         body: Body::Bytes(blob(alloc, body)?),
-    }))
+    };
+    Ok(Answer::Response(Shared::new(alloc, response)?))
 }
 
-fn outcome_failed(kind: FaultKind, text: &'static str) -> Answer {
+fn outcome(alloc: Global, outcome: Outcome) -> Result<Answer, OutOfMemory> {
+    Ok(Answer::Outcome(Shared::new(alloc, outcome)?))
+}
+
+fn outcome_failed(
+    alloc: Global,
+    kind: FaultKind,
+    text: &'static str,
+) -> Result<Answer, OutOfMemory> {
     let text = Text::from_static(text);
-    Answer::Outcome(Outcome::Failed(Fault { kind, text }))
+    outcome(alloc, Outcome::Failed(Fault { kind, text }))
 }

@@ -1,5 +1,5 @@
--- Chains of calls are joined.
-use Rattle.std.proofs.Common.{◌≡◌, List, [], ◌∷◌, ◌++◌, subst, refl}
+-- Chains are joined, grow by one step, and are carried from one kind of step to another.
+use Rattle.std.proofs.Common.{◌≡◌, List, [], ◌∷◌, ◌++◌, map, subst, refl}
 use Rattle.smithy_types.specs.Chain.{Chained}
 
 module _ {T C : Type 0} (makes : T → C → T → Type 0) where
@@ -12,3 +12,10 @@ module _ {T C : Type 0} (makes : T → C → T → Type 0) where
 
   pub chained_more : (old mid new : T) (cs : List C) (c : C) → Chained makes old cs mid → makes mid c new → Chained makes old (cs ++ c ∷ []) new
   chained_more old mid new cs c h m = chained_join old mid new cs (c ∷ []) h (chained_one mid new c m)
+
+-- each step of one kind being a step of another
+pub chained_lift : {T C D : Type 0} (makes : T → C → T → Type 0) (does : T → D → T → Type 0) (f : C → D) →
+    ((o : T) (c : C) (n : T) → makes o c n → does o (f c) n) →
+    (old new : T) (cs : List C) → Chained makes old cs new → Chained does old (map f cs) new
+chained_lift makes does f l old new [] e = e
+chained_lift makes does f l old new (c ∷ cs) (t, m, r) = (t, l old c t m, chained_lift makes does f l t new cs r)

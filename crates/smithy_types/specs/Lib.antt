@@ -2,3 +2,4 @@ pub mod Chain
 pub mod HeaderList
 pub mod ListItems
 pub mod Partition
+pub mod Config

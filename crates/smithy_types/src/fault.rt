@@ -3,9 +3,11 @@ ghost use Rattle.std.specs.Prelude.{◌≡◌};
 
 use crate::{ConnectorKind, Hook, HttpResponse, Payload, Text};
 use std::alloc::AllocError;
+use std::error::Error;
+use std::fmt;
 
 /// What a fault comes from.
-#[derive(Debug, Drop)]
+#[derive(Debug, Drop, PartialEq, Eq)]
 pub enum FaultKind {
     /// An interceptor failed at this hook.
     Interceptor(Hook),
@@ -37,9 +39,11 @@ impl Clone for FaultKind {
 }
 
 /// A failure: what it comes from, and a text for people.
-#[derive(Debug, Drop)]
+#[derive(Debug, Drop, PartialEq, Eq)]
 pub struct Fault {
+    /// What it comes from.
     pub kind: FaultKind,
+    /// What a person reads.
     pub text: Text,
 }
 
@@ -55,9 +59,11 @@ impl Clone for Fault {
 }
 
 /// What an attempt, and in the end a run, comes to.
-#[derive(Debug, Drop)]
+#[derive(Debug, Drop, PartialEq, Eq)]
 pub enum Outcome {
+    /// The operation's output.
     Output(Payload),
+    /// It failed.
     Failed(Fault),
 }
 
@@ -86,3 +92,18 @@ pub enum SdkError<E> {
     /// The service answered with an error of the operation's model.
     ServiceError(E, HttpResponse),
 }
+
+/// The texts are those of the Rust crate.
+impl<E> fmt::Display for SdkError<E> {
+    fn fmt<W: fmt::Write>(&self, f: &mut fmt::Formatter<W>) -> fmt::Result {
+        f.write_str(match self {
+            SdkError::ConstructionFailure(_) => "failed to construct request",
+            SdkError::TimeoutError(_) => "request has timed out",
+            SdkError::DispatchFailure(_) => "dispatch failure",
+            SdkError::ResponseError(_, _) => "response error",
+            SdkError::ServiceError(_, _) => "service error",
+        })
+    }
+}
+
+impl<E: fmt::Debug + Drop> Error for SdkError<E> {}

@@ -4,6 +4,7 @@
 
 pub mod acceptor;
 pub mod blob;
+pub mod build_error;
 pub mod config;
 pub mod fault;
 pub mod hook;
@@ -24,6 +25,7 @@ pub mod wire;
 
 pub use acceptor::AcceptorState;
 pub use blob::Blob;
+pub use build_error::{BuildError, Part};
 pub use config::{
     ReconnectMode, RetryConfig, RetryMode, RetrySpec, RetrySpecVersion,
     StalledStreamProtectionConfig, TimeoutConfig,

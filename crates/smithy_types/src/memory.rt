@@ -1,9 +1,11 @@
+//! Want of memory.
 use std::alloc::{AllocError, AllocFailed};
 use std::error::Error;
 use std::fmt;
 
-/// An allocation was refused. Every call that takes memory can answer it, and none answers it for
-/// another cause.
+/// An allocation was refused. Every call that takes memory can answer it. Beside that it is
+/// answered by an invocation that was without memory once, from then on, and by a registry of
+/// buckets or limiters that has no number left.
 #[derive(Clone, Copy, Debug, PartialEq, Eq)]
 pub struct OutOfMemory;
 

@@ -3,7 +3,9 @@
 use orchestrate::InvokeError;
 use run_grammar::{Entry, Question};
 use smithy_context::InterceptorContext;
-use smithy_types::{Blob, Body, Fault, FaultKind, HttpRequest, HttpResponse, Payload, SdkError};
+use smithy_types::{
+    Blob, Body, Fault, FaultKind, HttpRequest, HttpResponse, Payload, SdkError, Shared,
+};
 use std::alloc::Global;
 use std::test::Fail;
 
@@ -29,7 +31,7 @@ pub fn stopped(
     match answer {
         Ok(context) => match &context.view.request {
             Some(sent) => {
-                let sent = request(alloc, sent)?;
+                let sent = request(alloc, sent.get())?;
                 Ok(format!(in alloc; "Stopped {sent}")?)
             }
             None => Ok(format!(in alloc; "Stopped")?),
@@ -136,7 +138,7 @@ pub fn handed(alloc: Global, entries: &[Entry]) -> Result<String, Fail> {
     let mut lines = String::new(alloc);
     for entry in entries {
         if let Some(sent) = handed_with(&entry.question) {
-            let line = request(alloc, sent)?;
+            let line = request(alloc, sent.get())?;
             lines.push_str(line.as_str())?;
             lines.push('\n')?;
         }
@@ -144,7 +146,7 @@ pub fn handed(alloc: Global, entries: &[Entry]) -> Result<String, Fail> {
     Ok(lines)
 }
 
-fn handed_with(question: &Question) -> Option<&HttpRequest> {
+fn handed_with(question: &Question) -> Option<&Shared<HttpRequest>> {
     match question {
         Question::Apply { request, .. } => request.as_ref(),
         Question::Transmit { request, .. } => request.as_ref(),
