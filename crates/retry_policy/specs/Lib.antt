@@ -1,2 +1,5 @@
+pub mod Backoff
 pub mod Classifying
+pub mod Decision
+pub mod Standing
 pub mod Verdict

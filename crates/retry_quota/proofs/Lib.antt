@@ -1,4 +1,5 @@
 mod BookLemmas
+pub mod CallLemmas
 mod PlaceLemmas
 mod RegisterLemmas
 mod TableLemmas

@@ -1,7 +1,8 @@
 -- The calls of a quota as data, and what each does to what the quota means.
-use Rattle.std.specs.Prelude.{◌≡◌, ℕ, Bool, Option, Result, Ok, slice_get}
+use Rattle.std.specs.Prelude.{◌≡◌, ℕ, Bool, true, Option, Result, Ok, slice_get}
 use Rattle.std.specs.Option.{option_map_or}
 use Rattle.smithy_types.specs.declared.config.RetrySpec.{RetrySpec}
+use Rattle.smithy_types.specs.declared.kinds.ErrorKind.{ErrorKind}
 use Rattle.smithy_types.specs.declared.partition.RetryPartition.{RetryPartition}
 use Rattle.retry_quota.specs.declared.limiter.RequestReason.{RequestReason}
 use Rattle.retry_quota.specs.History.{Step, Reply}
@@ -28,6 +29,9 @@ pub record Limiters (L : Type 0) : Type 0 where
   pub reply_to : L → ℕ → RequestReason → Result (Unit {0}) ℕ
   pub after_update : L → ℕ → Bool → L
 
+abbrev pub limiters_by : {L : Type 0} → (ℕ → L) → (L → ℕ → RequestReason → L) → (L → ℕ → RequestReason → Result (Unit {0}) ℕ) → (L → ℕ → Bool → L) → Limiters L
+limiters_by at after_acquire reply_to after_update = record { at = at; after_acquire = after_acquire; reply_to = reply_to; after_update = after_update }
+
 -- what a limiter answers; a number that isn't there refuses nothing
 abbrev pub limiter_reply : {L : Type 0} → Limiters L → Meaning L → ℕ → ℕ → RequestReason → Result (Unit {0}) ℕ
 limiter_reply means m limiter now reason = option_map_or (λ l. means.reply_to l now reason) (slice_get m.limiters limiter) (Ok tt)
@@ -41,3 +45,9 @@ Calls means m (AskedLimiter limiter now reason reply) n =
 Calls means m (ToldLimiter limiter now throttled) n = ChangesLimiter m limiter (λ l. means.after_update l now throttled) n
 Calls means m (FoundBucket partition spec number) n = AnswersBucket m partition spec number n
 Calls means m (FoundLimiter partition now number) n = AnswersLimiter m partition (means.at now) number n
+
+-- a bucket that is there stays there, with its costs and its reward
+pub record KeepsThere {L : Type 0} (m n : Meaning L) (bucket : ℕ) : Type 0 where
+  pub has : n.has bucket ≡ true
+  pub cost : (kind : ErrorKind) → n.cost bucket kind ≡ m.cost bucket kind
+  pub reward : n.reward bucket ≡ m.reward bucket
