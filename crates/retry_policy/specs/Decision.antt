@@ -201,7 +201,7 @@ pub record Decides {L : Type 0} (means : Limiters L) (m : Meaning L) (settings :
   -- what the quota means once the limiter is found
   pub mid : Meaning L
   pub stands : Stands means m settings now retry bucket paced mid
-  pub comes : Comes means mid (decision (case_of retry bucket (is_failure c.view.outcome) c.view.attempt verdict now word paced m) held) d held_after n
+  pub comes : Comes means mid (decision (case_of retry bucket (is_failure c.view.outcome) c.view.attempt verdict now word paced mid) held) d held_after n
 
 -- the first attempt waits as long as the limiter asks
 abbrev pub initially : Option Paced → Result (Unit {0}) ℕ → Initial

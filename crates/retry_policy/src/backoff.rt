@@ -56,12 +56,7 @@ pub(crate) fn polls_for_long(spec: Option<RetrySpec>) -> bool
 }
 
 /// The backoff behind this attempt, by these delays of the limiter and of the service.
-pub(crate) fn backoff(
-    retry: RetryConfig,
-    limited: Option<u64>,
-    asked: Option<u64>,
-    own: u64,
-) -> u64
+pub(crate) fn backoff(retry: RetryConfig, limited: Option<u64>, asked: Option<u64>, own: u64) -> u64
     ensures { result ≡ backoff_of retry limited asked own }
 {
     if is_v2_1(retry.spec) {

@@ -112,7 +112,7 @@ pub(crate) fn find_limiter<Q: Quota>(
 ) -> Result<Option<Paced>, StrategyError>
     requires { lacks_partition retry now (standing_partition settings.now) ≡ false }
     ensures found { IfOk result (λ paced. FindsLimiter (limiters_by Q.Limiter.at Q.Limiter.after_acquire Q.Limiter.reply_to Q.Limiter.after_update)
-      (Q.meaning quota.old) (uses_limiter retry now) now (standing_partition settings.now) paced (Q.meaning quota.new)) }
+        (Q.meaning quota.old) (uses_limiter retry now) now (standing_partition settings.now) paced (Q.meaning quota.new)) }
     ensures kept { OnErr result (IsKept (Q.meaning quota.old) (Q.meaning quota.new)) }
     ensures error { IfErr result (λ e. e ≡ StrategyError.OutOfMemory) }
 {
