@@ -5,7 +5,7 @@ use Rattle.smithy_context.specs.declared.layer.LayerEntry.{LayerEntry}
 use Rattle.smithy_context.specs.Settings.{or_else, last_entry}
 use Rattle.smithy_context.specs.Layer.{entry_at}
 
-or_else-assoc : {T : Type 0} (a b c : Option T) → or_else (or_else a b) c ≡ or_else a (or_else b c)
+pub or_else-assoc : {T : Type 0} (a b c : Option T) → or_else (or_else a b) c ≡ or_else a (or_else b c)
 or_else-assoc None b c = refl
 or_else-assoc (Some x) b c = refl
 

@@ -1,5 +1,5 @@
 -- What a layer says of a key, and what it says after a change.
-use Rattle.std.specs.Prelude.{Bool, Option, Some, None, List, [], ◌∷◌, ◌++◌, ℕ, find, position, option_map, slice_set}
+use Rattle.std.specs.Prelude.{Bool, true, false, cond, Option, Some, None, is_none, List, [], ◌∷◌, ◌++◌, ℕ, find, position, option_map, slice_set}
 use Rattle.smithy_context.specs.declared.setting.Setting.{Setting}
 use Rattle.smithy_context.specs.declared.setting.SettingKey.{SettingKey}
 use Rattle.smithy_context.specs.declared.layer.LayerEntry.{LayerEntry}
@@ -18,6 +18,11 @@ entry_at l k = find (is_at k) l
 -- what the layer says of a key, where it mentions it: a value, or that it is unset
 abbrev pub mentioned : List LayerEntry → SettingKey → Option (Option Setting)
 mentioned l k = option_map (λ (e : LayerEntry). e.value) (entry_at l k)
+
+-- no key stands twice
+abbrev pub keys_once : List LayerEntry → Bool
+keys_once [] = true
+keys_once (e ∷ l) = cond (is_none (entry_at l e.key)) (keys_once l) false
 
 -- the layer with this entry in the place of its key's, or at the end
 abbrev pub placed : Option ℕ → List LayerEntry → LayerEntry → List LayerEntry

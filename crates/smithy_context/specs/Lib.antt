@@ -6,3 +6,4 @@ pub mod Settings
 pub mod Failures
 pub mod Context
 pub mod Hooks
+pub mod Looking

@@ -1,7 +1,7 @@
 //! Layers of settings.
-ghost use Rattle.std.specs.Prelude.{◌≡◌, [], ◌==◌, length, IfSome, ◌<◌, IfOk, OnOk, OnErr, option_and_then, option_map, option_copied, Some, None, find, position};
+ghost use Rattle.std.specs.Prelude.{◌≡◌, [], ◌==◌, true, length, IfSome, ◌<◌, IfOk, OnOk, OnErr, option_and_then, option_map, option_copied, Some, None, find, position};
 ghost use Rattle.smithy_context.specs.Setting.{same_key, key_of};
-ghost use Rattle.smithy_context.specs.Layer.{mentioned, put_entry, entry, entry_at, is_at};
+ghost use Rattle.smithy_context.specs.Layer.{mentioned, put_entry, entry, entry_at, is_at, keys_once};
 
 use crate::{Setting, SettingKey};
 use smithy_types::{List, OutOfMemory, Shared};
@@ -43,7 +43,12 @@ impl Model for Layer {
 
     ghost Value = { List LayerEntry };
 
+    ghost use Rattle.std.specs.Prelude.{◌≡◌, true};
+    ghost use Rattle.smithy_context.specs.Layer.{keys_once};
+
     ghost view = { λ l. l.entries };
+
+    ghost invariant = { λ l. keys_once l.entries ≡ true };
 }
 
 impl Layer {
@@ -56,9 +61,10 @@ impl Layer {
         }
     }
 
-    /// What the layer says, in the order in which the keys were first put.
+    /// What the layer says, in the order in which the keys were first put. Each key stands once.
     pub fn entries(&self) -> &[LayerEntry]
-        ensures { result.now ≡ self.now }
+        ensures value { result.now ≡ self.now }
+        ensures once { keys_once self.now ≡ true }
     {
         self.entries.as_slice()
     }
@@ -109,18 +115,34 @@ impl Layer {
     }
 
     /// Puts an entry in the place of its key's, or at the end.
+    #[tactic(auto, using(crate::proofs::LookingLemmas::keeps_once))]
     pub fn set(&mut self, alloc: Global, entry: LayerEntry) -> Result<(), OutOfMemory>
         ensures ok { OnOk result (self.new ≡ put_entry self.old entry) }
         ensures err { OnErr result (self.new ≡ self.old) }
     {
-        let place = place_of(self.entries.as_slice(), &entry.key);
-        match place {
-            Some(index) => {
-                self.entries.replace(index, entry);
-                Ok(())
-            }
-            None => self.entries.push(alloc, entry),
+        match put_into(&mut self.entries, alloc, entry) {
+            Ok(()) => Ok(()),
+            Err(error) => Err(error),
         }
+    }
+}
+
+// Puts an entry in the place of its key's, or at the end.
+fn put_into(
+    entries: &mut List<LayerEntry>,
+    alloc: Global,
+    entry: LayerEntry,
+) -> Result<(), OutOfMemory>
+    ensures ok { OnOk result (entries.new ≡ put_entry entries.old entry) }
+    ensures err { OnErr result (entries.new ≡ entries.old) }
+{
+    let place = place_of(entries.as_slice(), &entry.key);
+    match place {
+        Some(index) => {
+            entries.replace(index, entry);
+            Ok(())
+        }
+        None => entries.push(alloc, entry),
     }
 }
 

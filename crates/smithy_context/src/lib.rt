@@ -4,6 +4,7 @@
 pub mod cloneable;
 pub mod context;
 pub mod intercept;
+pub mod laws;
 pub mod layer;
 pub mod setting;
 pub mod settings;

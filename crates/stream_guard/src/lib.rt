@@ -9,7 +9,7 @@ pub mod report;
 pub mod throughput;
 
 pub use bin::{Bin, BinLabel};
-pub use logs::{ThroughputLogs, WindowTooShort};
+pub use logs::ThroughputLogs;
 pub use options::{MinimumThroughputBodyOptions, MinimumThroughputBodyOptionsBuilder};
 pub use report::ThroughputReport;
 pub use throughput::Throughput;

@@ -1,16 +1,12 @@
-ghost use Rattle.std.specs.Prelude.{◌≡◌, ◌+◌, ◌-◌, ◌*◌, ◌/◌, ◌<◌, ◌↔◌, ◌^◌, ◌∷◌, ◌++◌, [], true, not, length, List, Some, IsErr, IfOk, drop};
+//! What happened to a stream, by bins of time.
+ghost use Rattle.std.specs.Prelude.{◌≡◌, ◌+◌, ◌-◌, ◌*◌, ◌/◌, ◌<◌, ◌↔◌, ◌^◌, ◌∷◌, ◌++◌, [], true, not, length, List, Some, IsErr, IfErr, IfOk, drop};
 ghost use Rattle.stream_guard.specs.Bin.{no_polling, Shifted};
 ghost use Rattle.stream_guard.specs.Report.{own_bin};
 
 use crate::report::{BIN_COUNT, judge};
 use crate::{Bin, BinLabel, ThroughputReport};
+use smithy_types::BuildError;
 use std::marker::Model;
-use thiserror::Error;
-
-/// The window of time is shorter than 10 ns, so it has no ten bins.
-#[derive(Clone, Copy, Debug, Error)]
-#[error("the window is shorter than 10 ns")]
-pub struct WindowTooShort;
 
 /// What happened to a stream, in ten bins of equal length up to the latest moment that was seen.
 /// Moments are in ns.
@@ -41,14 +37,16 @@ impl ThroughputLogs {
     ghost use Rattle.stream_guard.specs.Logs.{Log, empty_log, Keeps, SameSettings, CatchesUp, AddsEvent, shown};
     ghost use Rattle.stream_guard.specs.Report.{Came, Pending, Transferred, Looked, report_of};
 
-    /// A log that starts now and judges by a window of so many ns.
-    pub fn new(window: u64, now: u64) -> Result<ThroughputLogs, WindowTooShort>
+    /// A log that starts now and judges by a window of so many ns. A window below 10 ns is refused,
+    /// since it has no ten bins.
+    pub fn new(window: u64, now: u64) -> Result<ThroughputLogs, BuildError>
         ensures short { IsErr result ↔ (window < 10) }
+        ensures refused { IfErr result (λ e. e ≡ BuildError.WindowTooShort) }
         ensures log { IfOk result (λ log. log ≡ empty_log now (window / 10)) }
         ensures kept { IfOk result (λ log. Keeps log []) }
     {
         if window < 10 {
-            return Err(WindowTooShort);
+            return Err(BuildError::WindowTooShort);
         }
         Ok(ThroughputLogs {
             start: now,
@@ -401,7 +399,7 @@ mod tests {
         }
     }
 
-    fn compare(rt: &impl Abort, list: &[Came], now: u64) -> Result<(), WindowTooShort> {
+    fn compare(rt: &impl Abort, list: &[Came], now: u64) -> Result<(), BuildError> {
         let mut logs = ThroughputLogs::new(100, START)?;
         for came in list {
             push(&mut logs, *came);

@@ -1,9 +1,9 @@
 -- What a builder is refused for, and what it makes.
 use Rattle.std.specs.Prelude.{◌≡◌, Bool, true, false, not, List, [], ◌∷◌, Option, None, Some, is_none, nat_lt, unwrap_or}
 use Rattle.waiters.specs.declared.builder.WaiterOrchestratorBuilder.{WaiterOrchestratorBuilder}
-use Rattle.waiters.specs.declared.error.BuildError.{BuildError}
-use Rattle.waiters.specs.declared.error.BuildError.TheVariants.{Missing, DelayBelowSecond, DelaysOutOfOrder}
-use Rattle.waiters.specs.declared.error.Part.TheVariants as part
+use Rattle.smithy_types.specs.declared.build_error.BuildError.{BuildError}
+use Rattle.smithy_types.specs.declared.build_error.BuildError.TheVariants.{Missing, DelayBelowSecond, DelaysOutOfOrder}
+use Rattle.smithy_types.specs.declared.build_error.Part.TheVariants as part
 use Rattle.waiters.specs.declared.orchestrator.WaiterOrchestrator.{WaiterOrchestrator}
 use Rattle.waiters.specs.Delay.{second}
 

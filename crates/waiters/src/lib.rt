@@ -5,7 +5,6 @@
 mod asking;
 pub mod backoff;
 pub mod builder;
-pub mod error;
 mod laws;
 pub mod orchestrator;
 pub mod outcome;
@@ -15,11 +14,10 @@ mod verdict;
 
 pub use backoff::{Backoff, delay};
 pub use builder::WaiterOrchestratorBuilder;
-pub use error::{BuildError, Part};
 pub use laws::an_ended_walk_is_finished;
 pub use orchestrator::WaiterOrchestrator;
 pub use outcome::{FinalPoll, WaiterError};
-pub use smithy_types::AcceptorState;
+pub use smithy_types::{AcceptorState, BuildError, Part};
 pub use timers::{PollAnswer, WaiterCall, WaiterTimers};
 
 #[cfg(test)]
