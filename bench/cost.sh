@@ -3,9 +3,9 @@
 # 1000. Each delay is a turn of 23 calls. What the script costs is left out: it is the same with
 # fuel 0, where nothing is asked.
 top=$(cd "$(dirname "$0")/.." && pwd)
-program=$top/crates/engine_cost/out/engine_cost
+program=$top/crates/orchestrate_cost/out/orchestrate_cost
 
-[ -x "$program" ] || (cd "$top/crates/engine_cost" && rt run) || exit 1
+[ -x "$program" ] || (cd "$top/crates/orchestrate_cost" && rt run) || exit 1
 
 # The instructions of one run with these words.
 instructions() {

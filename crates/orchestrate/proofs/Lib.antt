@@ -10,3 +10,5 @@ pub mod Completeness
 pub mod SpelledLaw
 pub mod QueueLemmas
 pub mod Ending
+pub mod Determined
+pub mod RefusedLaw

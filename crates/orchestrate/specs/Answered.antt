@@ -56,13 +56,13 @@ ContextAnswered p stop fuel (Err Unfinished) before log = UnfinishedRun p stop f
 ContextAnswered p stop fuel (Err (WrongType payload)) before log = ⊥
 ContextAnswered p stop fuel (Err OutOfMemory) before log = RunLost p stop fuel before log
 
--- what an error of the service's payload is as the caller's type
-abbrev pub ReadsError : {E : Type 0} → (Payload → E → Type 0) → SdkError Payload → SdkError E → Type 0
-ReadsError reads (ConstructionFailure f) e = e ≡ ConstructionFailure f
-ReadsError reads (TimeoutError f) e = e ≡ TimeoutError f
-ReadsError reads (DispatchFailure f) e = e ≡ DispatchFailure f
-ReadsError reads (ResponseError f r) e = e ≡ ResponseError f r
-ReadsError {E} reads (ServiceError p r) e = (x : E) × reads p x × (e ≡ ServiceError x r)
+-- what an error of the service's payload is as the caller's type, which accepts it
+abbrev pub ReadsError : {E : Type 0} → (Payload → Bool) → (Payload → E → Type 0) → SdkError Payload → SdkError E → Type 0
+ReadsError takes reads (ConstructionFailure f) e = e ≡ ConstructionFailure f
+ReadsError takes reads (TimeoutError f) e = e ≡ TimeoutError f
+ReadsError takes reads (DispatchFailure f) e = e ≡ DispatchFailure f
+ReadsError takes reads (ResponseError f r) e = e ≡ ResponseError f r
+ReadsError {E} takes reads (ServiceError p r) e = (takes p ≡ true) × (x : E) × reads p x × (e ≡ ServiceError x r)
 
 -- the payload is the output that stands and is none of the caller's, or the service's error and is none
 abbrev pub Refused : (Payload → Bool) → (Payload → Bool) → Payload → Result Payload (SdkError Payload) → Type 0
@@ -75,7 +75,7 @@ abbrev pub OperationAnswered : {O E : Type 0} → (Payload → Bool) → (Payloa
 OperationAnswered takes_output reads_output takes_error reads_error p fuel (Ok output) before log =
     WholeRun p stops.None fuel before log (λ c. (o : Payload) × (answer_of c ≡ Ok o) × (takes_output o ≡ true) × reads_output o output)
 OperationAnswered takes_output reads_output takes_error reads_error p fuel (Err (Sdk error)) before log =
-    WholeRun p stops.None fuel before log (λ c. (e : SdkError Payload) × (answer_of c ≡ Err e) × ReadsError reads_error e error)
+    WholeRun p stops.None fuel before log (λ c. (e : SdkError Payload) × (answer_of c ≡ Err e) × ReadsError takes_error reads_error e error)
 OperationAnswered takes_output reads_output takes_error reads_error p fuel (Err Unfinished) before log = UnfinishedRun p stops.None fuel before log
 OperationAnswered takes_output reads_output takes_error reads_error p fuel (Err (WrongType payload)) before log =
     WholeRun p stops.None fuel before log (λ c. Refused takes_output takes_error payload (answer_of c))
@@ -91,7 +91,7 @@ OutputRead takes reads p (Err (Sdk error)) = ⊥
 
 -- what reading the error of a whole run came to
 abbrev pub SdkErrorRead : {E : Type 0} → (Payload → Bool) → (Payload → E → Type 0) → SdkError Payload → InvokeError E → Type 0
-SdkErrorRead takes reads s (Sdk error) = ReadsError reads s error
+SdkErrorRead takes reads s (Sdk error) = ReadsError takes reads s error
 SdkErrorRead takes reads s (WrongType q) = (r : HttpResponse) × (s ≡ ServiceError q r) × (takes q ≡ false)
 SdkErrorRead takes reads s OutOfMemory = Unit {0}
 SdkErrorRead takes reads s Unfinished = ⊥

@@ -11,3 +11,4 @@ pub mod ScriptValue
 pub mod Script
 pub mod Handing
 pub mod SpelledRuns
+pub mod Refused

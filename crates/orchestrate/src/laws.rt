@@ -10,9 +10,10 @@ ghost use Rattle.run_grammar.specs.Standing.{State, standing, start};
 ghost use Rattle.run_grammar.specs.Laws.{Begins, IsWhole};
 ghost use Rattle.orchestrate.specs.declared.execution.InvokeError.{InvokeError};
 ghost use Rattle.orchestrate.specs.declared.invocation.Invocation.{Invocation};
-ghost use Rattle.orchestrate.specs.Answered.{ContextAnswered, OperationAnswered, PayloadAnswered};
+ghost use Rattle.orchestrate.specs.Answered.{ContextAnswered, InputAnswered, OperationAnswered, PayloadAnswered};
 ghost use Rattle.orchestrate.specs.Finish.{answer_of};
 ghost use Rattle.orchestrate.specs.Handing.{HadMemory};
+ghost use Rattle.orchestrate.specs.Refused.{ConfigurationsAreRefused};
 ghost use Rattle.orchestrate.specs.SpelledRuns.{OneSpelledRun};
 ghost use Rattle.orchestrate.specs.Stands.{Stands};
 
@@ -30,6 +31,12 @@ pub fn answers_are_determined()
     ensures payloads { (p : Payload) (fuel : ℕ) (before log : List Entry) (a b : Result Payload (InvokeError Payload)) → HadMemory a → HadMemory b → PayloadAnswered p fuel a before log → PayloadAnswered p fuel b before log → a ≡ b }
 {}
 
+/// Want of memory aside, the answer of an operation is determined by the calls that it made and by
+/// `fuel`, whatever its input was.
+pub fn an_operations_answers_are_determined<I: Wire, O: Wire, E: Wire>()
+    ensures { (i j : I) (fuel : ℕ) (before log : List Entry) (a b : Result O (InvokeError E)) → HadMemory a → HadMemory b → InputAnswered I.accepts I.reads_as O.accepts O.reads_as E.accepts E.reads_as i fuel a before log → InputAnswered I.accepts I.reads_as O.accepts O.reads_as E.accepts E.reads_as j fuel b before log → a ≡ b }
+{}
+
 /// Want of memory aside, an operation whose calls are a whole run with an output that its type
 /// accepts answers that output.
 pub fn acceptable_outputs_are_answered<O: Wire, E: Wire>()
@@ -40,4 +47,9 @@ pub fn acceptable_outputs_are_answered<O: Wire, E: Wire>()
 /// begin a run and are no whole one.
 pub fn a_script_spells_one_run()
     ensures { OneSpelledRun }
+{}
+
+/// A whole run with a Configure that isn't answered Layer has a ConstructionFailure for its answer.
+pub fn a_failed_configuration_is_a_construction_failure()
+    ensures { ConfigurationsAreRefused }
 {}

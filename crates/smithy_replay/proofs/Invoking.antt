@@ -23,12 +23,12 @@ each p = true
 abbrev itself : Payload → Payload → Type 0
 itself p q = q ≡ p
 
-reads_itself : (e f : SdkError Payload) → ReadsError itself e f → e ≡ f
+reads_itself : (e f : SdkError Payload) → ReadsError each itself e f → e ≡ f
 reads_itself (errors.ConstructionFailure x) f h = sym h
 reads_itself (errors.TimeoutError x) f h = sym h
 reads_itself (errors.DispatchFailure x) f h = sym h
 reads_itself (errors.ResponseError x r) f h = sym h
-reads_itself (errors.ServiceError p r) f (x, e, h) = sym (h ∙ ap (λ y. errors.ServiceError y r) e)
+reads_itself (errors.ServiceError p r) f (t, x, e, h) = sym (h ∙ ap (λ y. errors.ServiceError y r) e)
 
 over_payloads : (p : Payload) (fuel : ℕ) (r : Result Payload (InvokeError Payload)) (before log : List Entry) → OperationAnswered each itself each itself p fuel r before log → PayloadAnswered p fuel r before log
 over_payloads p fuel (Ok output) before log (l, g, b, w, (o, e, t, u)) = (l, g, b, w, e ∙ ap Ok (sym u))

@@ -584,10 +584,13 @@ struct OfKindThree {
 
 impl Wire for OfKindThree {
     ghost use Rattle.std.specs.Prelude.{◌≡◌, ◌==◌};
+    ghost use Rattle.std.proofs.Common.{◌∙◌, ap, sym};
 
     ghost accepts = { λ p. p.kind == 3 };
 
     ghost reads_as = { λ p v. v.bytes ≡ p.bytes };
+
+    ghost one_value = { λ p x y h g. ap (λ b. record { bytes = b }) (h ∙ sym g) };
 
     fn to_payload(&self, _alloc: Global) -> Result<Payload, OutOfMemory> {
         Ok(Payload {

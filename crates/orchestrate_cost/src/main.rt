@@ -7,12 +7,12 @@
 ghost use Rattle.std.specs.Prelude.{◌≡◌, [], IfOk};
 
 use anyhow::{Context, Result};
-use engine_rows::script::{
+use orchestrate::{ScriptWorld, invoke};
+use orchestrate_rows::script::{
     ANSWERED, CONFIGURED, DECIDED, DELAYED, GRANTED, Line, OPENED, UNAVAILABLE,
 };
-use engine_rows::spelled::payload;
-use engine_rows::world;
-use orchestrate::{ScriptWorld, invoke};
+use orchestrate_rows::spelled::payload;
+use orchestrate_rows::world;
 use smithy_types::OutOfMemory;
 use std::alloc::Global;
 use std::env;
