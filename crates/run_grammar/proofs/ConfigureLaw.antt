@@ -18,7 +18,7 @@ use Rattle.run_grammar.specs.declared.answer.Answer.{Answer}
 use Rattle.run_grammar.specs.declared.answer.Answer.TheVariants as answers
 use Rattle.run_grammar.specs.declared.answer.Entry.{Entry}
 use Rattle.run_grammar.specs.declared.standing.Standing.{Standing}
-use Rattle.run_grammar.specs.Writes.{writes_input, writes_request, writes_response, writes_outcome}
+use Rattle.smithy_context.specs.Hooks.{writes_input, writes_request, writes_response, writes_outcome}
 use Rattle.run_grammar.specs.Entry.{kind_of, fails, sets_failure}
 use Rattle.run_grammar.specs.Question.{nanos_of}
 use Rattle.run_grammar.specs.Fits.{fits}

@@ -31,3 +31,4 @@ pub mod ConfigureLaw
 pub mod Breaking
 pub mod SampleLists
 pub mod TokenLists
+pub mod HookLaw

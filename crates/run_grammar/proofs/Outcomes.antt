@@ -19,7 +19,7 @@ use Rattle.run_grammar.specs.declared.kind.Kind.TheVariants as kinds
 use Rattle.run_grammar.specs.declared.answer.Answer.{Answer}
 use Rattle.run_grammar.specs.declared.answer.Answer.TheVariants as answers
 use Rattle.run_grammar.specs.declared.standing.Standing.{Standing}
-use Rattle.run_grammar.specs.Writes.{writes_input, writes_request, writes_response, writes_outcome}
+use Rattle.smithy_context.specs.Hooks.{writes_input, writes_request, writes_response, writes_outcome}
 use Rattle.run_grammar.specs.Entry.{sets_failure, writes_failure, is_failed, is_pending, is_ready}
 use Rattle.run_grammar.specs.Tests.{answers_delay, answers_go, answers_go_or_no, answers_started, answers_not_streaming, answers_read, answers_decided_yes}
 use Rattle.run_grammar.specs.Fits.{fits, fits_configure, fits_hook, fits_request, fits_load, fits_initial, fits_start, fits_wait, fits_choose, fits_endpoint, fits_transmit, fits_stream, fits_body, fits_deserialize, fits_decide, fits_abandon, fits_park}

@@ -17,7 +17,7 @@ use Rattle.run_grammar.specs.declared.kind.Kind.TheVariants as kinds
 use Rattle.run_grammar.specs.declared.answer.Answer.{Answer}
 use Rattle.run_grammar.specs.declared.answer.Answer.TheVariants as answers
 use Rattle.run_grammar.specs.declared.standing.Standing.{Standing}
-use Rattle.run_grammar.specs.Writes.{writes_input, writes_request, writes_response, writes_outcome}
+use Rattle.smithy_context.specs.Hooks.{writes_input, writes_request, writes_response, writes_outcome}
 use Rattle.run_grammar.specs.Fits.{fits, fits_request}
 use Rattle.run_grammar.specs.Change.{changed, fails_with, granted, is_unbegun, refused_text, or_fails, on_configure, on_hook, on_serialize, on_load, on_initial, on_start, on_wait, on_choose, on_endpoint, on_request, on_transmit, on_stream, on_body, on_deserialize, on_decide, rewound_to, written_by, merged_into, hook_failed, with_body, with_outcome, with_input, with_request, with_response, with_phase, serializing, loads_body}
 use Rattle.run_grammar.proofs.Outcomes.{Has, either_way}

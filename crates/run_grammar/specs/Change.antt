@@ -12,7 +12,7 @@ use Rattle.smithy_types.specs.declared.fault.FaultKind.{FaultKind}
 use Rattle.smithy_types.specs.declared.fault.FaultKind.TheVariants as faults
 use Rattle.smithy_types.specs.declared.fault.Outcome.{Outcome}
 use Rattle.smithy_types.specs.declared.hook.Hook.{Hook}
-use Rattle.run_grammar.specs.Writes.{writes_input, writes_request, writes_response, writes_outcome}
+use Rattle.smithy_context.specs.Hooks.{writes_input, writes_request, writes_response, writes_outcome}
 use Rattle.smithy_types.specs.declared.http.Body.TheVariants as bodies
 use Rattle.smithy_types.specs.declared.http.HttpRequest.{HttpRequest}
 use Rattle.smithy_types.specs.declared.http.HttpResponse.{HttpResponse}

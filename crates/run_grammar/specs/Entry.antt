@@ -1,6 +1,6 @@
 -- What an entry's question and answer are.
 use Rattle.std.specs.Prelude.{Bool, true, false, cond, ℕ, ◌==◌, Option, Some, is_some}
-use Rattle.run_grammar.specs.Writes.{writes_outcome}
+use Rattle.smithy_context.specs.Hooks.{writes_outcome}
 use Rattle.smithy_context.specs.declared.intercept.Change.{Change}
 use Rattle.smithy_context.specs.declared.intercept.Change.TheVariants as changes
 use Rattle.smithy_context.specs.declared.intercept.HookAnswer.{HookAnswer}

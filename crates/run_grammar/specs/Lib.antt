@@ -1,5 +1,4 @@
 pub mod Question
-pub mod Writes
 pub mod Entry
 pub mod Fits
 pub mod Change
@@ -21,3 +20,4 @@ pub mod Breaks
 pub mod Samples
 pub mod SampleRuns
 pub mod TokenRuns
+pub mod HookRow

@@ -9,10 +9,11 @@ use smithy_types::{
 use std::alloc::AllocError;
 
 /// The auth scheme and the identity that a request is signed with.
-#[derive(Drop)]
+#[derive(Debug, Drop)]
 pub struct Chosen {
     /// The scheme's id.
     pub scheme: Text,
+    /// Whom the request is signed for.
     pub identity: Shared<Identity>,
     /// The endpoint, where it was resolved already.
     pub endpoint: Option<Shared<Endpoint>>,
@@ -37,16 +38,21 @@ impl Clone for Chosen {
 }
 
 /// An answer. Which ones fit a question is said by its kind.
+#[derive(Debug)]
 pub enum Answer {
     /// Not yet: the question is asked again.
     Pending,
     /// The world has no such part.
     Absent,
+    /// It failed, with this text.
     Failed(Text),
     /// The request was not sent, or no response came.
     ConnectorFailed(ConnectorKind, Text),
+    /// The settings of a step of the configuration.
     Layer(Layer),
+    /// What the interceptors of a hook did.
     Hooked(HookAnswer),
+    /// The request, made or rewritten.
     Request(Shared<HttpRequest>),
     /// The request's body, in memory.
     Loaded(Blob),
@@ -56,19 +62,27 @@ pub enum Answer {
     No,
     /// The attempt is asked for again after so many nanoseconds.
     Delay(u64),
+    /// The sleep was started.
     Started,
     /// The sleep is over.
     Ready,
+    /// The scheme and the identity.
     Chosen(Chosen),
+    /// Where the request goes.
     Endpoint(Shared<Endpoint>),
+    /// The response's head, with the body as far as it is there.
     Response(Shared<HttpResponse>),
     /// The operation doesn't stream: its body is read.
     NotStreaming,
+    /// The output or the error that the response is.
     Outcome(Shared<Outcome>),
     /// The response's body, whole.
     Read(Blob),
+    /// Whether a further attempt is made, and from what that was decided.
     Decided(Choice, Option<DecideNote>),
+    /// What was pending is given up.
     Abandoned,
+    /// The caller may have waited.
     Parked,
     /// The world had no memory for its answer. It stands in a log alone, and fits no question.
     NoMemory,
@@ -138,8 +152,10 @@ impl Clone for Answer {
 }
 
 /// One call of a world: what it was asked, and what it answered.
-#[derive(Drop)]
+#[derive(Debug, Drop)]
 pub struct Entry {
+    /// What it was asked.
     pub question: crate::Question,
+    /// What it answered.
     pub answer: Answer,
 }

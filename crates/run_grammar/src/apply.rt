@@ -2,9 +2,9 @@
 ghost use Rattle.std.specs.Prelude.{◌≡◌, None, true, IfOk, OnOk, OnErr};
 ghost use Rattle.run_grammar.specs.Change as change;
 ghost use Rattle.run_grammar.specs.declared.answer.Answer.TheVariants as answers;
-ghost use Rattle.run_grammar.specs.Writes.{writes_input, writes_request, writes_response, writes_outcome};
 
 use crate::{Answer, Chosen, ConfigureStage, Kind, Role, Standing};
+use smithy_context::writes::{writes_input, writes_outcome, writes_request, writes_response};
 use smithy_context::{Change, HookAnswer, Layer};
 use smithy_types::{
     Blob, Body, Choice, Fault, FaultKind, Hook, HttpRequest, HttpResponse, OutOfMemory, Outcome,
@@ -568,35 +568,4 @@ fn attempt_timeout_text(alloc: Global, nanos: u64) -> Result<Text, OutOfMemory>
         "operation attempt timeout (single attempt) occurred after {nanos} ns"
     )?;
     Text::from_string(text)
-}
-
-fn writes_input(hook: Hook) -> bool
-    ensures { result ≡ writes_input hook }
-{
-    matches!(hook, Hook::ModifyBeforeSerialization)
-}
-
-fn writes_request(hook: Hook) -> bool
-    ensures { result ≡ writes_request hook }
-{
-    matches!(
-        hook,
-        Hook::ModifyBeforeRetryLoop | Hook::ModifyBeforeSigning | Hook::ModifyBeforeTransmit
-    )
-}
-
-fn writes_response(hook: Hook) -> bool
-    ensures { result ≡ writes_response hook }
-{
-    matches!(hook, Hook::ModifyBeforeDeserialization)
-}
-
-/// Whether the hook may write the outcome.
-pub(crate) fn writes_outcome(hook: Hook) -> bool
-    ensures { result ≡ writes_outcome hook }
-{
-    matches!(
-        hook,
-        Hook::ModifyBeforeAttemptCompletion | Hook::ModifyBeforeCompletion
-    )
 }

@@ -3,8 +3,8 @@ ghost use Rattle.std.specs.Prelude.{◌≡◌, true};
 ghost use Rattle.run_grammar.specs.Fits.{fits, is_late};
 ghost use Rattle.run_grammar.specs.Entry.{hook_fails, sets_failure, writes_failure};
 
-use crate::apply::writes_outcome;
 use crate::{Answer, Kind, Role};
+use smithy_context::writes::writes_outcome;
 use smithy_context::{Change, HookAnswer};
 use smithy_types::Outcome;
 

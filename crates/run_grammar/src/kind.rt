@@ -1,4 +1,5 @@
-//! What kinds of question there are.
+//! What kinds of question a world is asked. The small enums that values name, as a phase or an error
+//! kind, are in `smithy_types::kinds`.
 
 use smithy_types::Hook;
 

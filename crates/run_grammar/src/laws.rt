@@ -9,6 +9,7 @@ ghost use Rattle.run_grammar.specs.Cases.{RunCases};
 ghost use Rattle.run_grammar.specs.Laws.{BegunAreTaken, GoesOn, IsRun, NoPrefix, OneQuestion, SomeAnswerFits};
 ghost use Rattle.run_grammar.specs.Outcomes.{OutcomeStands, RequestOrOutcomeStands};
 ghost use Rattle.run_grammar.specs.Attempts.{AttemptsComplete};
+ghost use Rattle.run_grammar.specs.HookRow.{HookRow};
 ghost use Rattle.run_grammar.specs.Breaks.{NoLateQuestion, NoMissingFinalizers, NoOpenAttempt};
 ghost use Rattle.run_grammar.specs.Finals.{FinalizersOnce};
 ghost use Rattle.run_grammar.specs.Scopes.{AttemptScopesEnd, OperationScopesEnd};
@@ -102,4 +103,11 @@ pub fn tokens_stand()
 /// failure in the phase before serialization.
 pub fn configurations_end()
     ensures { ConfigurationsEnd }
+{}
+
+/// A hook's row is that of the chains below: its view afterwards is what a chain's next
+/// interceptor sees, and its text is the failure that then stands.
+#[tactic(auto, using(crate::proofs::HookLaw::hook_row))]
+pub fn a_hook_leaves_what_its_chain_shows()
+    ensures { HookRow }
 {}

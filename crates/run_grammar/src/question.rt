@@ -7,6 +7,7 @@ use smithy_context::{HookView, Settings};
 use smithy_types::{Endpoint, HttpRequest, HttpResponse, Identity, Outcome, Payload, Shared, Text};
 
 /// A question with the parts of the run that it hands on. A part that doesn't stand is None.
+#[derive(Debug)]
 pub enum Question {
     Configure {
         stage: ConfigureStage,

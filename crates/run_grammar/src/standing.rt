@@ -14,10 +14,13 @@ use smithy_types::{
 /// What stands in a run: the context that interceptors see, and what only the engine reads.
 #[derive(Drop)]
 pub struct Standing {
+    /// What interceptors see, the phase and the checkpoint.
     pub context: InterceptorContext,
     /// The id of the auth scheme.
     pub scheme: Option<Text>,
+    /// Whom the request is signed for.
     pub identity: Option<Shared<Identity>>,
+    /// Where the request goes.
     pub endpoint: Option<Shared<Endpoint>>,
     /// The last delay or pause that a grant or a decision asked for, in nanoseconds.
     pub delay: Option<u64>,

@@ -14,6 +14,7 @@ use smithy_types::{
 pub struct InterceptorContext {
     /// What a hook is shown.
     pub view: HookView,
+    /// How far the run has come.
     pub phase: Phase,
     /// The request as it stood before the first attempt, where it can be copied.
     pub checkpoint: Option<Shared<HttpRequest>>,
@@ -128,24 +129,28 @@ impl InterceptorContext {
         matches!(&self.view.outcome, Some(Outcome::Failed(_)))
     }
 
+    /// The operation's input, up to serialization.
     pub fn input(&self) -> Option<&Payload>
         ensures { option_copied result ≡ self.now.view.input }
     {
         self.view.input.as_ref()
     }
 
+    /// The request as it stands.
     pub fn request(&self) -> Option<&HttpRequest>
         ensures { option_copied result ≡ self.now.view.request }
     {
         self.view.request.as_ref().map(|request| request.get())
     }
 
+    /// The response of the present attempt.
     pub fn response(&self) -> Option<&HttpResponse>
         ensures { option_copied result ≡ self.now.view.response }
     {
         self.view.response.as_ref().map(|response| response.get())
     }
 
+    /// What the attempt, or the run, has come to so far.
     pub fn outcome(&self) -> Option<&Outcome>
         ensures { option_copied result ≡ self.now.view.outcome }
     {
@@ -159,12 +164,14 @@ impl InterceptorContext {
         self.view.attempt
     }
 
+    /// The settings that stand.
     pub fn settings(&self) -> &Settings
         ensures { result.now ≡ self.now.view.settings }
     {
         &self.view.settings
     }
 
+    /// How far the run has come.
     pub fn phase(&self) -> &Phase
         ensures { result.now ≡ self.now.phase }
     {

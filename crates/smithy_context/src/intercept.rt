@@ -6,7 +6,7 @@ use smithy_types::{HttpRequest, HttpResponse, Outcome, Payload, Shared, Text};
 use std::alloc::AllocError;
 
 /// What a hook is shown.
-#[derive(Drop)]
+#[derive(Debug, Drop)]
 pub struct HookView {
     /// The operation's input, up to serialization.
     pub input: Option<Payload>,
@@ -38,7 +38,7 @@ impl Clone for HookView {
 }
 
 /// A part of the run that a hook writes.
-#[derive(Drop)]
+#[derive(Debug, Drop)]
 pub enum Change {
     /// The input becomes this.
     Input(Payload),
@@ -64,7 +64,7 @@ impl Clone for Change {
 }
 
 /// What a hook answers.
-#[derive(Drop)]
+#[derive(Debug, Drop)]
 pub struct HookAnswer {
     /// What it writes. A change that its hook may not write is ignored.
     pub change: Option<Change>,

@@ -11,6 +11,7 @@ use std::marker::Model;
 /// What a layer says of one key: a value, or that the key is unset.
 #[derive(Debug, Drop)]
 pub struct LayerEntry {
+    /// The key.
     pub key: SettingKey,
     /// None is the mark Unset, which hides what lower layers say.
     pub value: Option<Shared<Setting>>,

@@ -11,8 +11,11 @@ use std::alloc::AllocError;
 /// A setting with its value. A mark has no value: it is there or it isn't.
 #[derive(Debug, Drop)]
 pub enum Setting {
+    /// The deadlines.
     Timeouts(TimeoutConfig),
+    /// How the operation is retried.
     Retry(RetryConfig),
+    /// Whether streams that stall are given up.
     Stall(StalledStreamProtectionConfig),
     /// Whether the request's body is loaded into memory before the first attempt.
     LoadBody(bool),

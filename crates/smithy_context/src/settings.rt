@@ -41,7 +41,7 @@ impl FrozenLayer {
     }
 }
 
-#[derive(Drop)]
+#[derive(Debug, Drop)]
 struct Layers {
     pushed: List<Shared<Layer>>,
     state: Layer,
@@ -49,7 +49,7 @@ struct Layers {
 
 /// Layers of settings with a state layer on top. It is shared: a copy costs the same however much
 /// is set.
-#[derive(Drop)]
+#[derive(Debug, Drop)]
 pub struct Settings {
     held: Option<Shared<Layers>>,
 }

@@ -1,3 +1,4 @@
+//! What the acceptors of a waiter say.
 /// What the acceptors of a waiter said of a poll, as the `AcceptorState` of the Smithy waiter
 /// specification.
 #[derive(Clone, Copy, Debug, PartialEq, Eq)]

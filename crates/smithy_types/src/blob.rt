@@ -1,3 +1,4 @@
+//! Bytes that are shared.
 ghost use Rattle.std.specs.Prelude.{◌≡◌, [], length, ◌==◌, IfOk, nat_eq};
 ghost use Rattle.std.specs.Cmp.{partial_equiv_from_equiv};
 ghost use Rattle.std.specs.Cmp.Lexicographic.{pointwise, nat_list_eq_equiv};

@@ -103,9 +103,13 @@ impl Clone for Body {
 /// A request of HTTP.
 #[derive(Debug, Drop)]
 pub struct HttpRequest {
+    /// The method, such as `GET`.
     pub method: Text,
+    /// Where the request goes.
     pub uri: Text,
+    /// Its headers.
     pub headers: Headers,
+    /// Its body.
     pub body: Body,
 }
 
@@ -125,8 +129,11 @@ impl Clone for HttpRequest {
 /// A response of HTTP.
 #[derive(Debug, Drop)]
 pub struct HttpResponse {
+    /// The status, such as 200.
     pub status: u16,
+    /// Its headers.
     pub headers: Headers,
+    /// Its body, which is Taken until it was read.
     pub body: Body,
 }
 

@@ -27,14 +27,18 @@ impl Clone for Identity {
 /// A header that an endpoint sets on its requests.
 #[derive(Debug, Drop)]
 pub struct EndpointHeader {
+    /// The header's name.
     pub name: Text,
+    /// Its values, in order.
     pub values: List<Text>,
 }
 
 /// Where requests go.
 #[derive(Debug, Drop)]
 pub struct Endpoint {
+    /// Scheme, authority and the front of the path.
     pub url: Text,
+    /// What is set on each request that goes there.
     pub headers: List<EndpointHeader>,
     /// The auth schemes that the endpoint takes, where it says so.
     pub schemes: Option<List<Text>>,

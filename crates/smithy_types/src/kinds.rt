@@ -1,4 +1,5 @@
-//! Small enums that many values name.
+//! Small enums that values name: phases, kinds of errors and of connector faults, stop points. The
+//! kinds of questions are in `run_grammar::kind`.
 
 /// How far a run has come. The order is that of a run without a retry.
 #[derive(Clone, Copy, Debug, PartialEq, Eq)]

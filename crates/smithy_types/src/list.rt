@@ -1,3 +1,4 @@
+//! Lists that are made without an allocator.
 ghost use Rattle.std.specs.List.{AllZip};
 ghost use Rattle.std.specs.Prelude.{◌≡◌, ◌<◌, slice_set, [], ◌∷◌, ◌++◌, length, ◌==◌, IfOk, OnOk, OnErr};
 

@@ -4,12 +4,16 @@ use crate::{ErrorKind, Sums};
 /// What a retry classifier says.
 #[derive(Clone, Copy, Debug, PartialEq, Eq)]
 pub enum RetryAction {
+    /// Nothing is said of a retry.
     NoActionIndicated,
+    /// A retry would help.
     RetryIndicated {
+        /// What it would have to do with.
         kind: ErrorKind,
         /// How long the service asks to wait, in nanoseconds.
         retry_after: Option<u64>,
     },
+    /// No retry, whatever later classifiers say.
     RetryForbidden,
 }
 
@@ -27,7 +31,9 @@ pub enum ChooseNote {
 /// Whether a further attempt is made.
 #[derive(Clone, Copy, Debug, PartialEq, Eq)]
 pub enum Choice {
+    /// A further attempt is made at once.
     Yes,
+    /// No further attempt is made.
     No,
     /// No, but the caller pauses for so many nanoseconds before it is told.
     NoAfter(u64),
@@ -51,11 +57,13 @@ pub enum Reason {
 /// What a decision was made from.
 #[derive(Clone, Copy, Debug, PartialEq, Eq)]
 pub struct DecideNote {
+    /// What the classifiers said.
     pub verdict: RetryAction,
     /// The moment in nanoseconds, where the client has a time source.
     pub moment: Option<u64>,
     /// The random word that the backoff was drawn with.
     pub word: u64,
+    /// Why it was chosen so.
     pub reason: Reason,
     /// The bucket's sums after the decision, where the quota tells them.
     pub sums: Option<Sums>,

@@ -26,7 +26,9 @@ use std::hash::{Hash, Hasher};
 /// The bucket and the limiter of a custom partition, by their numbers in a registry.
 #[derive(Clone, Copy, Debug)]
 pub struct CustomPartition {
+    /// The number of the token bucket.
     pub bucket: u32,
+    /// The number of the rate limiter.
     pub limiter: u32,
 }
 
@@ -34,6 +36,7 @@ pub struct CustomPartition {
 /// registry keeps under the name, a custom one brings its own.
 #[derive(Debug, Drop)]
 pub struct RetryPartition {
+    /// The name.
     pub name: Text,
     /// The numbers of a custom partition. A default one has none.
     pub custom: Option<CustomPartition>,
@@ -136,8 +139,11 @@ pub trait PartitionRegistry {
 /// Builds a custom partition.
 #[derive(Debug, Drop)]
 pub struct RetryPartitionBuilder {
+    /// The partition's name.
     pub name: Text,
+    /// The number of its bucket, where one was given.
     pub bucket: Option<u32>,
+    /// The number of its limiter, where one was given.
     pub limiter: Option<u32>,
 }
 

@@ -1,3 +1,4 @@
+//! Values of the caller's as the engine carries them.
 ghost use Rattle.std.specs.Prelude.{◌≡◌};
 
 use crate::Blob;
@@ -8,6 +9,7 @@ use std::alloc::AllocError;
 pub struct Payload {
     /// Which type of value this is. The numbers are the caller's.
     pub kind: u32,
+    /// The value's bytes.
     pub bytes: Blob,
 }
 

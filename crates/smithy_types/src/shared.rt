@@ -1,3 +1,4 @@
+//! Values that are shared, also among threads.
 ghost use Rattle.std.specs.Prelude.{◌≡◌, IfOk};
 
 use crate::OutOfMemory;
