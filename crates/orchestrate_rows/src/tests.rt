@@ -5,6 +5,7 @@ mod cuts;
 mod fuel;
 mod rows;
 mod told;
+mod types;
 
 use crate::script::{Line, world};
 use crate::spelled::payload;
