@@ -548,16 +548,11 @@ fn a_second_attempt_begins_with_the_first_ones_request(rt: HostRuntime) -> Resul
 #[test]
 fn a_run_stops_before_its_request_is_sent(rt: HostRuntime) -> Result<(), Fail> {
     let alloc = rt.alloc();
-    let mut world = world(alloc, &[CONFIGURED, GRANTED, OPENED, DECIDED])?;
-    let input = payload(alloc, 1, "what are you?")?;
-    let stop = StopPoint::BeforeTransmit;
-    let answer = invoke_with_stop_point(alloc, "s", "o", &mut world, input, stop, 34);
-    let told = told::stopped(alloc, &answer)?;
+    let (told, kinds) = stopped(alloc, &[CONFIGURED, GRANTED, OPENED, DECIDED])?;
     assert_eq!(rt;
         told.as_str(),
         "Stopped GET http://localhost:1234/ what are you?"
     );
-    let kinds = asked::kinds(alloc, world.entries().as_slice())?;
     assert_eq!(rt; kinds.len(), 26);
     assert_eq!(rt; kinds.as_slice(), asked::joined(alloc, STOPPED)?.as_slice());
     Ok(())

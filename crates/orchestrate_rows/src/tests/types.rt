@@ -1,10 +1,10 @@
 //! Payloads that the caller's types refuse, and a stop point that a run doesn't come to.
 
 use super::rows::TEAPOT;
-use super::{Kind, Line, payload, told, world};
+use super::{Kind, Line, payload, stopped, told, world};
 use crate::script::{CONFIGURED, DECIDED, GRANTED, OPENED};
 use crate::spelled::Spelled;
-use orchestrate::{InvokeError, Operation, StopPoint, invoke_with_stop_point};
+use orchestrate::{InvokeError, Operation};
 use run_grammar::ConfigureStage;
 use smithy_types::{Blob, OutOfMemory, Payload, Text, Wire};
 use std::alloc::Global;
@@ -103,11 +103,8 @@ fn a_run_that_fails_before_its_stop_point_has_its_error(rt: HostRuntime) -> Resu
         Kind::Configure(ConfigureStage::Client),
         Spelled::Failed("x"),
     )]];
-    let mut world = world(alloc, script)?;
-    let input = payload(alloc, 1, "what are you?")?;
-    let stop = StopPoint::BeforeTransmit;
-    let answer = invoke_with_stop_point(alloc, "s", "o", &mut world, input, stop, 34);
-    let told = told::stopped(alloc, &answer)?;
+    let (told, kinds) = stopped(alloc, script)?;
+    assert_eq!(rt; kinds.len(), 1);
     assert_eq!(rt; told.as_str(), "ConstructionFailure Other x");
     Ok(())
 }
