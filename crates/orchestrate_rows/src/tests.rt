@@ -5,6 +5,7 @@ mod cuts;
 mod fuel;
 mod rows;
 mod told;
+mod types;
 
 use crate::script::{Line, world};
 use crate::spelled::payload;
@@ -59,6 +60,17 @@ fn seen(
         handed: told::handed(alloc, entries)?,
         told: told::answer(alloc, answer)?,
     })
+}
+
+/// What a run up to its stop point answers, and the kinds of its questions.
+fn stopped(alloc: Global, script: &[&[Line]]) -> Result<(String, Vec<Kind>), Fail> {
+    let mut world = world(alloc, script)?;
+    let input = payload(alloc, 1, "what are you?")?;
+    let stop = StopPoint::BeforeTransmit;
+    let answer = invoke_with_stop_point(alloc, "s", "o", &mut world, input, stop, 34);
+    let told = told::stopped(alloc, &answer)?;
+    let kinds = asked::kinds(alloc, world.entries().as_slice())?;
+    Ok((told, kinds))
 }
 
 /// Runs the script with as much fuel as the row has calls, and compares what it tells.

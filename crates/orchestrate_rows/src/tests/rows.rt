@@ -3,9 +3,8 @@
 use super::*;
 use crate::script::{ANSWERED, CONFIGURED, DECIDED, DELAYED, GRANTED, OPENED, UNAVAILABLE};
 use crate::spelled::Spelled;
-use orchestrate::Operation;
 use run_grammar::{Abandonable, ConfigureStage, Role};
-use smithy_types::{Blob, Choice, Hook, OutOfMemory, Text, Wire};
+use smithy_types::{Choice, Hook};
 
 /// One attempt, with all hooks.
 pub const TEAPOT: Row = Row {
@@ -549,16 +548,11 @@ fn a_second_attempt_begins_with_the_first_ones_request(rt: HostRuntime) -> Resul
 #[test]
 fn a_run_stops_before_its_request_is_sent(rt: HostRuntime) -> Result<(), Fail> {
     let alloc = rt.alloc();
-    let mut world = world(alloc, &[CONFIGURED, GRANTED, OPENED, DECIDED])?;
-    let input = payload(alloc, 1, "what are you?")?;
-    let stop = StopPoint::BeforeTransmit;
-    let answer = invoke_with_stop_point(alloc, "s", "o", &mut world, input, stop, 34);
-    let told = told::stopped(alloc, &answer)?;
+    let (told, kinds) = stopped(alloc, &[CONFIGURED, GRANTED, OPENED, DECIDED])?;
     assert_eq!(rt;
         told.as_str(),
         "Stopped GET http://localhost:1234/ what are you?"
     );
-    let kinds = asked::kinds(alloc, world.entries().as_slice())?;
     assert_eq!(rt; kinds.len(), 26);
     assert_eq!(rt; kinds.as_slice(), asked::joined(alloc, STOPPED)?.as_slice());
     Ok(())
@@ -575,52 +569,3 @@ const STOPPED: &[&[Kind]] = &[
     asked::DECIDED,
     asked::FINISHED,
 ];
-
-/// Bytes that are carried as a payload of kind 3, and read from no other.
-#[derive(Drop)]
-struct OfKindThree {
-    bytes: Blob,
-}
-
-impl Wire for OfKindThree {
-    ghost use Rattle.std.specs.Prelude.{◌≡◌, ◌==◌};
-    ghost use Rattle.std.proofs.Common.{◌∙◌, ap, sym};
-
-    ghost accepts = { λ p. p.kind == 3 };
-
-    ghost reads_as = { λ p v. v.bytes ≡ p.bytes };
-
-    ghost one_value = { λ p x y h g. ap (λ b. record { bytes = b }) (h ∙ sym g) };
-
-    fn to_payload(&self, _alloc: Global) -> Result<Payload, OutOfMemory> {
-        Ok(Payload {
-            kind: 3,
-            bytes: self.bytes.clone()?,
-        })
-    }
-
-    fn from_payload(_alloc: Global, payload: &Payload) -> Result<Option<OfKindThree>, OutOfMemory> {
-        if payload.kind != 3 {
-            return Ok(None);
-        }
-        Ok(Some(OfKindThree {
-            bytes: payload.bytes.clone()?,
-        }))
-    }
-}
-
-#[test]
-fn an_output_of_another_kind_is_of_the_wrong_type(rt: HostRuntime) -> Result<(), Fail> {
-    let alloc = rt.alloc();
-    let mut world = world(alloc, TEAPOT.script)?;
-    let input = payload(alloc, 1, "what are you?")?;
-    let operation: Operation<Payload, OfKindThree, Payload> = Operation::named(
-        Text::from_static("service"),
-        Text::from_static("operation"),
-    );
-    let answer = operation.invoke(alloc, &mut world, input, 34);
-    let told = told::error(alloc, &answer)?;
-    assert_eq!(rt; told.as_str(), "WrongType 1 I'm a teapot!");
-    assert_eq!(rt; world.entries().len(), 34);
-    Ok(())
-}
