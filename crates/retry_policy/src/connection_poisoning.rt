@@ -69,8 +69,8 @@ impl Intercept for ConnectionPoisoningInterceptor {
         if is_before_transmit(hook) {
             return sets(alloc, Setting::Capture(view.attempt));
         }
-        let poisoned =
-            is_after_deserialization(hook) && poisons(self.verdict, standing_retry(&view.settings));
+        let poisoned = is_after_deserialization(hook)
+            && poisons(self.verdict, standing_retry(&view.settings));
         if poisoned {
             return sets(alloc, Setting::Poisoned(view.attempt));
         }

@@ -12,15 +12,15 @@ ghost use Rattle.retry_policy.specs.Decision.{Case, decision};
 /// were made, and the bucket granted what it asked for.
 pub fn a_further_attempt_is_indicated_and_paid()
     ensures indicated { (c : Case) (held : Option Permit) (reply : Result (Unit {0}) ℕ) (grant : Option ℕ) (wait : ℕ)
-      → (decision c held reply grant).choice ≡ Delay wait → (kind : ErrorKind) × (retry_after : Option ℕ) × (c.verdict ≡ RetryIndicated kind retry_after) }
+        → (decision c held reply grant).choice ≡ Delay wait → (kind : ErrorKind) × (retry_after : Option ℕ) × (c.verdict ≡ RetryIndicated kind retry_after) }
     ensures counted { (c : Case) (held : Option Permit) (reply : Result (Unit {0}) ℕ) (grant : Option ℕ) (wait : ℕ)
-      → (decision c held reply grant).choice ≡ Delay wait → c.attempt < c.retry.max_attempts }
+        → (decision c held reply grant).choice ≡ Delay wait → c.attempt < c.retry.max_attempts }
     ensures paid { (c : Case) (held : Option Permit) (reply : Result (Unit {0}) ℕ) (grant : Option ℕ) (wait : ℕ)
-      → (decision c held reply grant).choice ≡ Delay wait → (amount : ℕ) × (grant ≡ Some amount) }
+        → (decision c held reply grant).choice ≡ Delay wait → (amount : ℕ) × (grant ≡ Some amount) }
 {}
 
 /// But for version 2.1 of the specification no further attempt waits longer than the longest backoff.
 pub fn a_wait_is_at_most_the_longest_backoff()
     ensures { (c : Case) (held : Option Permit) (reply : Result (Unit {0}) ℕ) (grant : Option ℕ) (wait : ℕ)
-      → c.word < 2 ^ 64 → is_v2_1 c.retry.spec ≡ false → (decision c held reply grant).choice ≡ Delay wait → wait ≤ c.retry.max_backoff }
+        → c.word < 2 ^ 64 → is_v2_1 c.retry.spec ≡ false → (decision c held reply grant).choice ≡ Delay wait → wait ≤ c.retry.max_backoff }
 {}
