@@ -1,1 +1,2 @@
 mod DecisionLemmas
+mod WaitLemmas

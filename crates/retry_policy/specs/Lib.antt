@@ -1,5 +1,6 @@
 pub mod Backoff
 pub mod Classifying
 pub mod Decision
+pub mod Interceptors
 pub mod Standing
 pub mod Verdict

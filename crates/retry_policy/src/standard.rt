@@ -354,3 +354,6 @@ fn ask_limiter<Q: Quota>(
         Err(delay) => Some(delay),
     }
 }
+
+#[cfg(test)]
+mod tests;

@@ -34,7 +34,7 @@ pub struct Paced {
     pub now: u64,
 }
 
-fn standing_retry(settings: &Settings) -> Option<RetryConfig>
+pub(crate) fn standing_retry(settings: &Settings) -> Option<RetryConfig>
     ensures { result ≡ standing_retry settings.now }
 {
     match settings.load(&SettingKey::Retry) {
