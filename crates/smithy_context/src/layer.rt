@@ -1,7 +1,7 @@
 //! Layers of settings.
 ghost use Rattle.std.specs.Prelude.{◌≡◌, [], ◌==◌, length, IfSome, ◌<◌, IfOk, OnOk, OnErr, option_and_then, option_map, option_copied, Some, None, find, position};
 ghost use Rattle.smithy_context.specs.Setting.{same_key, key_of};
-ghost use Rattle.smithy_context.specs.Layer.{mentioned, put_entry, entry, entry_at, is_at};
+ghost use Rattle.smithy_context.specs.Layer.{mentioned, put_entry, entry, entry_at, is_at, merged};
 
 use crate::{Setting, SettingKey};
 use smithy_types::{List, OutOfMemory, Shared};
@@ -54,6 +54,15 @@ impl Layer {
         Layer {
             entries: List::new(),
         }
+    }
+
+    /// The layer of these entries, no key of which stands twice: put one after another, they are
+    /// this list. It takes no memory.
+    pub fn of_entries(entries: List<LayerEntry>) -> Layer
+        requires { merged [] entries ≡ entries }
+        ensures { result ≡ entries }
+    {
+        Layer { entries }
     }
 
     /// What the layer says, in the order in which the keys were first put.
