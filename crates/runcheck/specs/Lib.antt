@@ -1,13 +1,3 @@
-pub mod JsonData
-pub mod Reading
-pub mod Tuples
-pub mod Plain
-pub mod Lists
-pub mod Names
-pub mod Forms
-pub mod Values
-pub mod Readings
-pub mod SettingReadings
-pub mod AnswerReadings
-pub mod Limits
-pub mod Spellable
+pub mod Endings
+pub mod Print
+pub mod Laws

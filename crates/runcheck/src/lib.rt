@@ -1,19 +1,10 @@
-//! The values of scripts and prints: each is read from JSON and printed as JSON, and what is
-//! printed is read as the same value.
+//! The print of a run: the line that it is begun with, a line for each entry, and the last line.
 #![tactic(auto)]
 
-pub mod answer;
-pub mod fault;
-pub mod forms;
-pub mod http;
-pub mod json;
+pub mod ending;
+pub mod head;
 pub mod laws;
-pub mod limits;
-pub mod lists;
-pub mod names;
-pub mod note;
-pub mod read;
-pub mod setting;
+pub mod print;
 
-pub use json::{Json, Row};
-pub use read::ReadError;
+pub use ending::Ending;
+pub use head::RunHead;

@@ -171,3 +171,11 @@ merged_first s l k h =
 
 pub pushed_second : PushedComesSecond
 pushed_second s l k = ap (λ o. value_in (or_else (entry_at s.state k) o)) (last_entry-append s.pushed l k)
+
+-- what is put together by puts has each key once
+merged_once : (l m : List LayerEntry) → keys_once l ≡ true → keys_once (merged l m) ≡ true
+merged_once l [] h = h
+merged_once l (e ∷ es) h = merged_once (put_entry l e) es (keeps_once l e h)
+
+pub merged_keys_once : (m : List LayerEntry) → merged [] m ≡ m → keys_once m ≡ true
+merged_keys_once m e = subst (λ l. keys_once l ≡ true) e (merged_once [] m refl)

@@ -1,7 +1,7 @@
 //! Layers of settings.
 ghost use Rattle.std.specs.Prelude.{◌≡◌, [], ◌==◌, true, length, IfSome, ◌<◌, IfOk, OnOk, OnErr, option_and_then, option_map, option_copied, Some, None, find, position};
 ghost use Rattle.smithy_context.specs.Setting.{same_key, key_of};
-ghost use Rattle.smithy_context.specs.Layer.{mentioned, put_entry, entry, entry_at, is_at, keys_once};
+ghost use Rattle.smithy_context.specs.Layer.{mentioned, put_entry, entry, entry_at, is_at, keys_once, merged};
 
 use crate::{Setting, SettingKey};
 use smithy_types::{List, OutOfMemory, Shared};
@@ -60,6 +60,16 @@ impl Layer {
         Layer {
             entries: List::new(),
         }
+    }
+
+    /// The layer of these entries, no key of which stands twice: put one after another, they are
+    /// this list. It takes no memory.
+    #[tactic(auto, using(crate::proofs::LookingLemmas::merged_keys_once))]
+    pub fn of_entries(entries: List<LayerEntry>) -> Layer
+        requires { merged [] entries ≡ entries }
+        ensures { result ≡ entries }
+    {
+        Layer { entries }
     }
 
     /// What the layer says, in the order in which the keys were first put. Each key stands once.

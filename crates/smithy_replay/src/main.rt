@@ -1,41 +1,15 @@
-//! Replays runs of operations from scripts.
+//! Runs a command of the command line over standard input and standard output.
 #![tactic(auto)]
 
-#[cfg(test)]
-mod damaged;
-#[cfg(test)]
-mod edges;
-pub mod ending;
-pub mod laws;
-pub mod memory;
-pub mod print;
-#[cfg(test)]
-mod rows;
-pub mod run;
-pub mod script;
-pub mod sink;
-pub mod source;
-pub mod standard;
-pub mod status;
-pub mod streams;
-#[cfg(test)]
-mod tests;
-pub mod words;
-
-use run::run;
+use commands::program::program;
+use shell::status::Status;
 use smithy_types::{List, Text};
-use standard::{StdSink, StdSource};
-use status::Status;
 use std::process::ExitCode;
 use std::{env, io};
 
 fn main(rt: HostRuntime) -> ExitCode {
     let status = match command_line(&rt) {
-        Ok(words) => {
-            let mut source = StdSource::new(rt.stdin());
-            let mut sink = StdSink::new(rt.stdout());
-            run(&rt, rt.alloc(), words.as_slice(), &mut source, &mut sink)
-        }
+        Ok(words) => { program(&rt, rt.alloc(), words.as_slice(), rt.stdin(), rt.stdout()).status }
         Err(status) => status,
     };
     ExitCode::from(status.number())

@@ -1,0 +1,123 @@
+-- A replay is determined by its bytes.
+use Rattle.std.proofs.Common.{true, ℕ, List, [], ◌++◌, Option, Some, Result, Ok, Err, ◌≡◌, ◌≤◌, ◌⊎◌, false, length, refl, sym, ap, ◌∙◌, subst, inl, inr, arith}
+use Rattle.smithy_context.specs.declared.context.InterceptorContext.{InterceptorContext}
+use Rattle.smithy_types.specs.declared.kinds.StopPoint.{StopPoint}
+use Rattle.smithy_types.specs.declared.kinds.StopPoint.TheVariants as stops
+use Rattle.smithy_types.specs.declared.payload.Payload.{Payload}
+use Rattle.run_grammar.specs.declared.answer.Entry.{Entry}
+use Rattle.run_grammar.specs.Standing.{start}
+use Rattle.orchestrate.specs.Answered.{PayloadAnswered, ContextAnswered}
+use Rattle.orchestrate.specs.Handing.{HadMemory}
+use Rattle.orchestrate.specs.SpelledRuns.{IsRunWithin}
+use Rattle.orchestrate.specs.declared.execution.InvokeError.{InvokeError}
+use Rattle.orchestrate.specs.declared.execution.InvokeError.TheVariants as invoke_errors
+use Rattle.orchestrate.proofs.Completeness.{answers_determined, contexts_determined}
+use Rattle.orchestrate.proofs.SpelledLaw.{one_spelled_run}
+use Rattle.runcheck.specs.Endings.{ending_of, stopped_ending_of, EndsBy}
+use Rattle.runcheck.specs.Print.{run_text}
+use Rattle.runcheck.specs.declared.ending.Ending.{Ending}
+use Rattle.runcheck.specs.declared.head.RunHead.{RunHead}
+use Rattle.scripts.specs.Replay.{IsScript, is_within}
+use Rattle.scripts.specs.declared.replay.Script.{Script}
+use Rattle.shell.specs.Determined.{IsFunctional}
+use Rattle.shell.specs.Said.{Said, prints, refuses}
+use Rattle.shell.specs.declared.status.PrintStatus.{PrintStatus}
+use Rattle.shell.specs.declared.status.Refusal.TheVariants as refusals
+use Rattle.shell.specs.declared.status.Ended.{Ended}
+use Rattle.shell.specs.Sink.{SinkView}
+use Rattle.shell.specs.Source.{SourceView}
+use Rattle.shell.proofs.Determined.{Seen, seen, Told, status_of}
+use Rattle.commands.specs.Laws.{EachScriptIsReplayed, is_printed}
+use Rattle.commands.specs.Replay.{IsReplay, Replays, came_to, replay_says}
+use Rattle.commands.proofs.Spelling.{ended_had_memory, stopped_had_memory}
+
+same_some : {X : Type 0} (x y : X) → Some x ≡ Some y → x ≡ y
+same_some x y e = cc
+
+one_script : (bytes : List ℕ) (s t : Script) → IsScript bytes s → IsScript bytes t → s ≡ t
+one_script bytes s t (u, e) (v, f) = same_some s t (sym e ∙ f)
+
+-- ---- one run
+
+payload_run : (p : Payload) (fuel : ℕ) (r : Result Payload (InvokeError Payload)) (log : List Entry) → HadMemory r → PayloadAnswered p fuel r [] log → IsRunWithin stops.None (start p) fuel log
+payload_run p fuel (Ok output) log h (l, g, b, w, e) = subst (IsRunWithin stops.None (start p) fuel) (sym g) (inl (b, w))
+payload_run p fuel (Err (invoke_errors.Sdk error)) log h (l, g, b, w, e) = subst (IsRunWithin stops.None (start p) fuel) (sym g) (inl (b, w))
+payload_run p fuel (Err invoke_errors.Unfinished) log h (l, g, b, i, n) = subst (IsRunWithin stops.None (start p) fuel) (sym g) (inr (b, i, n))
+payload_run p fuel (Err (invoke_errors.WrongType q)) log h a = absurd a
+payload_run p fuel (Err invoke_errors.OutOfMemory) log h a = absurd h
+
+context_run : (p : Payload) (stop : StopPoint) (fuel : ℕ) (r : Result InterceptorContext (InvokeError Payload)) (log : List Entry) → HadMemory r → ContextAnswered p stop fuel r [] log →
+    IsRunWithin stop (start p) fuel log
+context_run p stop fuel (Ok context) log h (l, g, b, w, e) = subst (IsRunWithin stop (start p) fuel) (sym g) (inl (b, w))
+context_run p stop fuel (Err (invoke_errors.Sdk error)) log h (l, g, b, w, e) = subst (IsRunWithin stop (start p) fuel) (sym g) (inl (b, w))
+context_run p stop fuel (Err invoke_errors.Unfinished) log h (l, g, b, i, n) = subst (IsRunWithin stop (start p) fuel) (sym g) (inr (b, i, n))
+context_run p stop fuel (Err (invoke_errors.WrongType q)) log h a = absurd a
+context_run p stop fuel (Err invoke_errors.OutOfMemory) log h a = absurd h
+
+run_of_ending : (h : RunHead) (stop : StopPoint) (log : List Entry) (e : Ending) → EndsBy h stop [] log e → IsRunWithin stop (start h.input) h.fuel log
+run_of_ending h stops.None log e (r, a, g) = payload_run h.input h.fuel r log (ended_had_memory h r e g) a
+run_of_ending h stops.BeforeTransmit log e (r, a, g) = context_run h.input stops.BeforeTransmit h.fuel r log (stopped_had_memory h r e g) a
+
+one_ending : (h : RunHead) (stop : StopPoint) (log : List Entry) (e f : Ending) → EndsBy h stop [] log e → EndsBy h stop [] log f → e ≡ f
+one_ending h stops.None log e f (r, a, g) (q, b, k) =
+    let same = answers_determined h.input h.fuel [] log r q (ended_had_memory h r e g) (ended_had_memory h q f k) a b in
+    same_some e f (sym g ∙ ap (ending_of h) same ∙ k)
+one_ending h stops.BeforeTransmit log e f (r, a, g) (q, b, k) =
+    let same = contexts_determined h.input stops.BeforeTransmit h.fuel [] log r q (stopped_had_memory h r e g) (stopped_had_memory h q f k) a b in
+    same_some e f (sym g ∙ ap (stopped_ending_of h) same ∙ k)
+
+one_replay : (s : Script) (log m : List Entry) (e f : Ending) → Replays s log e → Replays s m f → (log ≡ m) × (e ≡ f)
+one_replay s log m e f (x, left, u) (y, rest, v) =
+    let h = s.head in
+    let same = one_spelled_run h.stop (start h.input) h.fuel s.answers left rest log m (run_of_ending h h.stop log e x) (run_of_ending h h.stop m f y) u v in
+    (same, one_ending h h.stop m e f (subst (λ l. EndsBy h h.stop [] l e) same x) y)
+
+one_print : (s : Script) (t u : List ℕ) (a b : PrintStatus) → IsReplay s t a → IsReplay s u b → (t ≡ u) × (a ≡ b)
+one_print s t u a b (log, e, x, g, i) (m, f, y, h, j) =
+    let same = one_replay s log m e f x y in
+    (g ∙ ap (λ l. run_text s.head l e) same.0 ∙ ap (λ z. run_text s.head m z) same.1 ∙ sym h, i ∙ ap came_to same.1 ∙ sym j)
+
+-- ---- one thing is said
+
+same_prints : (a b : PrintStatus) (t u : List ℕ) → a ≡ b → t ≡ u → prints a t ≡ prints b u
+same_prints a b t u e f = ap (λ (o : PrintStatus). prints o t) e ∙ ap (λ (x : List ℕ). prints b x) f
+
+one_said : (s r : Script) (a b : PrintStatus) (t u : List ℕ) → s ≡ r → IsReplay s t a → IsReplay r u b → prints a t ≡ prints b u
+one_said s r a b t u e h k =
+    let same = one_print s t u a b h (subst (λ x. IsReplay x u b) (sym e) k) in
+    same_prints a b t u same.1 same.0
+
+-- a script within its limits passes none
+within_passes : (s r : Script) → s ≡ r → is_within s ≡ true → is_within r ≡ false → ⊥
+within_passes s r e w v = let f = sym w ∙ ap is_within e ∙ v in cc
+
+pub replay_once : IsFunctional replay_says
+replay_once bytes (prints a t) (prints b u) (s, i, (w, h)) (r, j, (v, k)) = one_said s r a b t u (one_script bytes s r i j) h k
+replay_once bytes (prints a t) (refuses refusals.TooLarge) (s, i, (w, h)) (r, j, v) = absurd (within_passes s r (one_script bytes s r i j) w v)
+replay_once bytes (prints a t) (refuses refusals.BadScript) (s, i, h) f = absurd (f s i)
+replay_once bytes (prints a t) (refuses refusals.NotBuilt) h k = absurd k
+replay_once bytes (refuses refusals.TooLarge) (prints b u) (r, j, v) (s, i, (w, h)) = absurd (within_passes s r (one_script bytes s r i j) w v)
+replay_once bytes (refuses refusals.TooLarge) (refuses refusals.TooLarge) h k = refl
+replay_once bytes (refuses refusals.TooLarge) (refuses refusals.BadScript) (s, i, v) f = absurd (f s i)
+replay_once bytes (refuses refusals.TooLarge) (refuses refusals.NotBuilt) h k = absurd k
+replay_once bytes (refuses refusals.BadScript) (prints b u) f (s, i, h) = absurd (f s i)
+replay_once bytes (refuses refusals.BadScript) (refuses refusals.TooLarge) f (s, i, v) = absurd (f s i)
+replay_once bytes (refuses refusals.BadScript) (refuses refusals.BadScript) h k = refl
+replay_once bytes (refuses refusals.BadScript) (refuses refusals.NotBuilt) h k = absurd k
+replay_once bytes (refuses refusals.NotBuilt) x h k = absurd h
+
+-- ---- each script within its limits is replayed
+
+printed_by : (bytes : List ℕ) (s : Script) (x : Said) → IsScript bytes s → is_within s ≡ true → replay_says bytes x → is_printed (status_of x) ≡ true
+printed_by bytes s (prints a t) i w h = refl
+printed_by bytes s (refuses refusals.TooLarge) i w (r, j, v) = absurd (within_passes s r (one_script bytes s r i j) w v)
+printed_by bytes s (refuses refusals.BadScript) i w f = absurd (f s i)
+printed_by bytes s (refuses refusals.NotBuilt) i w h = absurd h
+
+replayed_by : {K : Type 0} (view : K → SinkView) (bytes : List ℕ) (s : Script) (ended : Ended) (old new : K) → length bytes ≤ 16777216 → IsScript bytes s → is_within s ≡ true →
+    Seen view replay_says bytes ended old new → is_printed ended ≡ true
+replayed_by view bytes s ended old new n i w (inl (e, m, k)) = absurd (omega (arith, n, m))
+replayed_by view bytes s ended old new n i w (inr (m, (x, h, e, k))) = ap is_printed e ∙ printed_by bytes s x i w h
+
+pub each_script_is_replayed : {K : Type 0} (view : K → SinkView) → EachScriptIsReplayed view
+each_script_is_replayed view bytes s ended before after old new e n i w h r = replayed_by view bytes s ended old new n i w (seen view replay_says bytes ended before after old new e h r)

@@ -1,0 +1,4 @@
+pub mod Words
+pub mod Replay
+pub mod Run
+pub mod Laws

@@ -1,0 +1,36 @@
+//! The program's own texts.
+
+/// What `--help` prints.
+pub const HELP: &str = "\
+usage: smithy_replay COMMAND
+
+A command reads its script from standard input and prints to standard output.
+
+  replay        replays one run of an operation from a script of answers
+  client        runs clients against a scripted outside (not built yet)
+  wait          runs a waiter (not built yet)
+  fleet         runs clients in threads over one bucket (not built yet)
+  check         tells whether its input is the print of a run (not built yet)
+  make N SEED   makes a script of N invocations and runs it; reads nothing (not built yet)
+  --help        prints this text; reads nothing
+  --version     prints the version; reads nothing
+
+Exit statuses:
+
+  0   done: the last answer is an output, or the request at the stop point
+  1   the words are no command
+  2   the input is no script of the command
+  3   the input could not be read
+  4   the output could not be written
+  5   there was no memory
+  6   the input, or a number in it, passes its limit
+  7   the command is not built yet
+  10  the last answer is an error of the operation
+  11  the fuel was used up
+  12  the last answer is a payload of another kind
+  13  the text is not the print of a run
+  20  the waiter ended with an error
+";
+
+/// What `--version` prints.
+pub const VERSION: &str = "smithy_replay 0.1.0\n";

@@ -1,0 +1,85 @@
+//! The program over a source and a sink.
+ghost use Rattle.std.specs.Prelude.{◌≡◌, ◌≢◌, Some};
+ghost use Rattle.commands.specs.Run.{Did, Ran};
+ghost use Rattle.commands.specs.Words.{command_of};
+
+use crate::gate::{Gate, OpenGate};
+use crate::help::{HELP, VERSION};
+use crate::replay::Replay;
+use crate::words::{Command, command_in};
+use shell::fixed::{Fixed, Unbuilt};
+use shell::serve::{serve, show};
+use shell::sink::Sink;
+use shell::source::Source;
+use shell::status::{Ended, ShellStatus, Status};
+use smithy_types::Text;
+use std::alloc::Global;
+use std::sync::Wait;
+use std::thread::Threads;
+
+/// Does what the words say.
+pub fn run<R: Threads + Wait + Sync, S: Source, K: Sink>(
+    rt: &R,
+    alloc: Global,
+    words: &[Text],
+    source: &mut S,
+    sink: &mut K,
+) -> Status
+    ensures { Ran S.view K.view (command_of words.now) result source.old source.new sink.old sink.new }
+{
+    run_gated(rt, alloc, words, source, sink, &OpenGate)
+}
+
+/// The same, with a gate before each call of a caller of `fleet`. No command starts a thread yet:
+/// `fleet` isn't built, and every other command is handed to `run_alone`.
+pub fn run_gated<R: Threads + Wait + Sync, S: Source, K: Sink, G: Gate + Sync>(
+    _rt: &R,
+    alloc: Global,
+    words: &[Text],
+    source: &mut S,
+    sink: &mut K,
+    _gate: &G,
+) -> Status
+    ensures { Ran S.view K.view (command_of words.now) result source.old source.new sink.old sink.new }
+{
+    match command_in(words) {
+        Some(Command::Fleet) => show(alloc, &Unbuilt, sink).status(),
+        _ => run_alone(alloc, words, source, sink),
+    }
+}
+
+/// Does what the words say, in this thread.
+pub fn run_alone<S: Source, K: Sink>(
+    alloc: Global,
+    words: &[Text],
+    source: &mut S,
+    sink: &mut K,
+) -> Status
+    requires { command_of words.now ≢ Some Command.Fleet }
+    ensures { Ran S.view K.view (command_of words.now) result source.old source.new sink.old sink.new }
+{
+    ended_alone(alloc, command_in(words), source, sink).status()
+}
+
+// Does a command that starts no thread.
+fn ended_alone<S: Source, K: Sink>(
+    alloc: Global,
+    command: Option<Command>,
+    source: &mut S,
+    sink: &mut K,
+) -> Ended
+    requires { command ≢ Some Command.Fleet }
+    ensures { Did S.view K.view command result source.old source.new sink.old sink.new }
+{
+    match command {
+        Some(Command::Help) => show(alloc, &Fixed { text: HELP }, sink),
+        Some(Command::Version) => show(alloc, &Fixed { text: VERSION }, sink),
+        Some(Command::Replay) => serve(alloc, &Replay, source, sink),
+        Some(Command::Client) => show(alloc, &Unbuilt, sink),
+        Some(Command::Wait) => show(alloc, &Unbuilt, sink),
+        Some(Command::Fleet) => unreachable!(),
+        Some(Command::Check) => show(alloc, &Unbuilt, sink),
+        Some(Command::Make { .. }) => show(alloc, &Unbuilt, sink),
+        None => Ended::Shell(ShellStatus::BadWords),
+    }
+}

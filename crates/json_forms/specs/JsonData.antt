@@ -1,0 +1,13 @@
+-- The data that printed JSON stands for.
+use Rattle.std.specs.Prelude.{List, map}
+use Rattle.serde_json.specs.Data.{Data}
+use Rattle.serde_json.specs.View.{view}
+use Rattle.json_forms.specs.declared.json.Json.{Json}
+use Rattle.json_forms.specs.declared.json.Row.{Row}
+
+abbrev pub data_of : Json → Data
+data_of j = view j.value
+
+-- the items so far
+abbrev pub items_in : Row → List Data
+items_in r = map view r.values.items

@@ -1,5 +1,0 @@
-use Rattle.runcheck.proofs.PrintedNames.{kind_read}
-use Rattle.runcheck.proofs.laws.printed_kinds_are_read.Goals as goal
-
-pub returns : goal.returns
-returns c = kind_read

@@ -1,0 +1,104 @@
+//! The print of a run.
+ghost use Rattle.std.specs.Prelude.{◌≡◌, ◌+◌, ◌++◌, IfOk, OnOk, option_copied};
+ghost use Rattle.json_forms.specs.JsonData.{data_of};
+ghost use Rattle.runcheck.specs.Print.{line, begin_data, transmitted, entry_data, entries_text, run_text};
+
+use crate::ending::{Ending, print_ending};
+use crate::head::RunHead;
+use json_forms::{Json, Row};
+use run_grammar::{Answer, Entry, Question};
+use smithy_types::{HttpRequest, OutOfMemory, Shared};
+use std::alloc::Global;
+use value_json::answer::{print_answer, print_kind};
+use value_json::http::{print_payload, print_request};
+use value_json::names::stop_name;
+
+/// The whole print: what it was begun with, the entries numbered from 1, and the ending.
+#[tactic(auto, unfolding(crate::specs::Print::run_text))]
+pub fn print_run(
+    alloc: Global,
+    head: &RunHead,
+    entries: &[Entry],
+    ending: &Ending,
+) -> Result<Vec<u8>, OutOfMemory>
+    ensures { IfOk result (λ v. v.items ≡ run_text head.now entries.now ending.now) }
+{
+    let mut out = Vec::new(alloc);
+    print_begin(alloc, head)?.write_line(alloc, &mut out)?;
+    print_entries(alloc, entries, &mut out)?;
+    print_ending(alloc, ending)?.write_line(alloc, &mut out)?;
+    Ok(out)
+}
+
+// The first line.
+#[tactic(auto, unfolding(crate::specs::Print::begin_data))]
+fn print_begin(alloc: Global, head: &RunHead) -> Result<Json, OutOfMemory>
+    ensures { IfOk result (λ j. data_of j ≡ begin_data head.now) }
+{
+    let mut row = Row::new(alloc);
+    row.push(Json::text(alloc, "begin")?)?;
+    row.push(print_payload(alloc, &head.input)?)?;
+    row.push(Json::text(alloc, stop_name(head.stop))?)?;
+    row.push(Json::number(head.output_kind))?;
+    row.push(Json::number(head.error_kind))?;
+    row.push(Json::number(head.fuel))?;
+    Ok(row.finish())
+}
+
+// The lines of the entries, numbered from 1.
+fn print_entries(alloc: Global, entries: &[Entry], out: &mut Vec<u8>) -> Result<(), OutOfMemory>
+    ensures { OnOk result (out.new.items ≡ out.old.items ++ entries_text 1 entries.now) }
+{
+    let mut number = 1;
+    for entry in entries {
+        print_entry(alloc, number, entry)?.write_line(alloc, out)?;
+        number = next(number)?;
+    }
+    Ok(())
+}
+
+// The next number. There is none behind the last of a u64, for which no memory could hold entries.
+fn next(number: u64) -> Result<u64, OutOfMemory>
+    ensures { IfOk result (λ n. n ≡ number + 1) }
+{
+    match number.checked_add(1) {
+        Some(next) => Ok(next),
+        None => Err(OutOfMemory),
+    }
+}
+
+// An entry with its number, and the request of a transmission.
+#[tactic(auto, unfolding(crate::specs::Print::entry_data))]
+fn print_entry(alloc: Global, number: u64, entry: &Entry) -> Result<Json, OutOfMemory>
+    ensures { IfOk result (λ j. data_of j ≡ entry_data number entry.now) }
+{
+    let mut row = Row::new(alloc);
+    row.push(Json::number(number))?;
+    row.push(print_kind(alloc, entry.question.kind())?)?;
+    row.push(print_answer(alloc, &entry.answer)?)?;
+    if let Some(request) = transmitted(&entry.question, &entry.answer) {
+        row.push(print_request(alloc, request)?)?;
+    }
+    Ok(row.finish())
+}
+
+// The request that a transmission was handed, once it isn't pending.
+fn transmitted<'e>(question: &'e Question, answer: &Answer) -> Option<&'e HttpRequest>
+    ensures { option_copied result ≡ transmitted question.now answer.now }
+{
+    match (question, answer) {
+        (Question::Transmit { .. }, Answer::Pending) => None,
+        (Question::Transmit { request, .. }, _) => shown(request),
+        _ => None,
+    }
+}
+
+// The request behind a handle.
+fn shown(request: &Option<Shared<HttpRequest>>) -> Option<&HttpRequest>
+    ensures { option_copied result ≡ request.now }
+{
+    match request {
+        Some(request) => Some(request.get()),
+        None => None,
+    }
+}

@@ -1,0 +1,73 @@
+-- Which script a text is.
+use Rattle.std.specs.Prelude.{ℕ, ◌≡◌, ◌≤◌, List, [], Bool, true, ◌&&◌, ◌||◌, Option, Some, None, codes, fold, nat_le, nat_eq, length, IsUtf8, if◌then◌else◌}
+use Rattle.std.specs.Cmp.Lexicographic.{pointwise}
+use Rattle.std.specs.List.{list_all}
+use Rattle.serde_json.specs.Data.{Data, Members, no_members, member}
+use Rattle.serde_json.specs.Find.{get, as_array, as_object, as_str}
+use Rattle.serde_json.specs.Read.{read}
+use Rattle.smithy_types.specs.declared.kinds.StopPoint.{StopPoint}
+use Rattle.smithy_types.specs.declared.kinds.StopPoint.TheVariants as stops
+use Rattle.smithy_context.specs.declared.setting.SettingKey.{SettingKey}
+use Rattle.orchestrate.specs.declared.script.ScriptAnswer.{ScriptAnswer}
+use Rattle.value_json.specs.AnswerReadings.{kind_at, answer_at}
+use Rattle.json_forms.specs.Forms.{named}
+use Rattle.scripts.specs.Limits.{answer_fits, layer_keys, with_keys, layer_of_answer}
+use Rattle.json_forms.specs.Lists.{list_of}
+use Rattle.value_json.specs.Names.{stop_text, stop_points}
+use Rattle.json_forms.specs.Plain.{number_at, pair_at}
+use Rattle.json_forms.specs.Reading.{◌>>=◌}
+use Rattle.value_json.specs.Readings.{payload_at}
+use Rattle.scripts.specs.declared.replay.Script.{Script}
+
+-- a kind as it is printed, and an answer that fits it
+unfoldable pub script_answer_at : Data → Option ScriptAnswer
+script_answer_at d = pair_at d >>= λ p. kind_at p.0 >>= λ k. answer_at k p.1 >>= λ a. Some (record { kind = k; answer = a })
+
+abbrev pub is_name : List ℕ → List ℕ → Bool
+is_name name word = pointwise nat_eq word name
+
+-- the members that a script may have
+unfoldable pub is_listed : List ℕ → Bool
+is_listed k = is_name (codes "input") k || (is_name (codes "fuel") k || (is_name (codes "stop") k || (is_name (codes "output_kind") k || (is_name (codes "error_kind") k || is_name (codes "answers") k))))
+
+abbrev pub members_all : (List ℕ → Bool) → Members → Bool
+members_all p no_members = true
+members_all p (member k d ms) = p k && members_all p ms
+
+-- no member beside them
+unfoldable pub listed_at : Data → Option (Unit {0})
+listed_at d = as_object d >>= λ ms. if members_all is_listed ms then Some tt else None
+
+unfoldable pub stop_at : Data → Option StopPoint
+stop_at d = as_str d >>= named stop_text stop_points
+
+-- the stop point, none where it is left out
+abbrev pub stop_of : Option Data → Option StopPoint
+stop_of None = Some stops.None
+stop_of (Some d) = stop_at d
+
+unfoldable pub script_at : Data → Option Script
+script_at d = listed_at d >>= λ _. get (codes "input") d >>= payload_at >>= λ i. get (codes "fuel") d >>= number_at >>= λ f. stop_of (get (codes "stop") d) >>= λ s.
+    get (codes "output_kind") d >>= number_at >>= λ o. get (codes "error_kind") d >>= number_at >>= λ e. get (codes "answers") d >>= as_array >>= list_of script_answer_at >>= λ list.
+    Some (record { head = record { input = i; fuel = f; stop = s; output_kind = o; error_kind = e }; answers = list })
+
+-- The bytes are the text of this script.
+abbrev pub IsScript : List ℕ → Script → Type 0
+IsScript bytes s = IsUtf8 bytes × ((read bytes >>= script_at) ≡ Some s)
+
+-- ---- limits
+
+abbrev pub answers_fit : List ScriptAnswer → Bool
+answers_fit list = list_all (λ (a : ScriptAnswer). answer_fits a.answer) list
+
+-- the keys of all layers, each once, behind earlier ones
+abbrev pub keys_behind : List SettingKey → List ScriptAnswer → List SettingKey
+keys_behind keys list = fold (λ ks (a : ScriptAnswer). with_keys ks (layer_keys (layer_of_answer a.answer))) keys list
+
+-- at most 64 different keys
+abbrev pub keys_fit : List ScriptAnswer → Bool
+keys_fit list = nat_le (length (keys_behind [] list)) 64
+
+-- Fuel, texts, bodies, heads and keys are within their limits.
+abbrev pub is_within : Script → Bool
+is_within s = nat_le (s.head).fuel 100000 && (answers_fit s.answers && keys_fit s.answers)

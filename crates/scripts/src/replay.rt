@@ -1,0 +1,195 @@
+//! Scripts of `replay`.
+ghost use Rattle.std.specs.Prelude.{◌≡◌, [], nat_le, length, IfOk, IsErrOf, option_map};
+ghost use Rattle.serde_json.specs.Errors.{IsMemory};
+ghost use Rattle.serde_json.specs.View.{view, items_view, members_view};
+ghost use Rattle.json_forms.specs.Lists.{list_of};
+ghost use Rattle.json_forms.specs.Reading.{Reads};
+ghost use Rattle.scripts.specs.Replay.{script_answer_at, is_listed, members_all, listed_at, stop_at, stop_of, script_at, IsScript, answers_fit, keys_fit, is_within};
+
+use crate::limits::{add_keys, answer_fits};
+use json_forms::ReadError;
+use json_forms::read::{items, member, number, pair, str};
+use orchestrate::ScriptAnswer;
+use runcheck::RunHead;
+use serde_json::{Error, Map, Value};
+use smithy_context::SettingKey;
+use smithy_types::{List, OutOfMemory, StopPoint};
+use std::alloc::Global;
+use value_json::answer::{read_answer, read_kind};
+use value_json::http::read_payload;
+use value_json::names::stop_named;
+
+/// The most fuel of a script.
+const FUEL_LIMIT: u64 = 100_000;
+
+/// The most different keys that the layers of a script may name.
+const KEY_LIMIT: usize = 64;
+
+/// A run to be replayed.
+#[derive(Drop)]
+pub struct Script {
+    /// What the run is begun with.
+    pub head: RunHead,
+    /// What the world answers, in order.
+    pub answers: List<ScriptAnswer>,
+}
+
+/// The script that the bytes are the text of.
+pub fn read_script(alloc: Global, bytes: &[u8]) -> Result<Script, ReadError>
+    ensures found { IfOk result (λ s. IsScript bytes.now s) }
+    ensures refused { IsErrOf result ReadError.Refused → (s : Script) → IsScript bytes.now s → ⊥ }
+{
+    match Value::from_slice(alloc, bytes) {
+        Ok(value) => script_in(alloc, &value),
+        Err(error) => Err(refusal(&error)),
+    }
+}
+
+// Why a text was not read.
+fn refusal(error: &Error) -> ReadError
+    ensures { result ≡ ReadError.Refused → ¬ (IsMemory error.now) }
+{
+    if error.is_memory() {
+        ReadError::Memory
+    } else {
+        ReadError::Refused
+    }
+}
+
+#[tactic(auto, unfolding(crate::specs::Replay::script_at))]
+fn script_in(alloc: Global, value: &Value) -> Result<Script, ReadError>
+    ensures { Reads result (script_at (view value.now)) }
+{
+    only_listed(value)?;
+    let input = read_payload(alloc, member(value, "input")?)?;
+    let fuel = number(member(value, "fuel")?)?;
+    let stop = stop_in(value.get("stop"))?;
+    let output_kind = number(member(value, "output_kind")?)?;
+    let error_kind = number(member(value, "error_kind")?)?;
+    let list = items(member(value, "answers")?)?;
+    let answers = read_answers(alloc, list)?;
+    let head = RunHead {
+        input,
+        fuel,
+        stop,
+        output_kind,
+        error_kind,
+    };
+    Ok(Script { head, answers })
+}
+
+// The stop point, none where it is left out.
+fn stop_in(value: Option<&Value>) -> Result<StopPoint, ReadError>
+    ensures { Reads result (stop_of (option_map (λ v. view v.now) value.entry)) }
+{
+    match value {
+        Some(value) => read_stop(value),
+        None => Ok(StopPoint::None),
+    }
+}
+
+#[tactic(auto, unfolding(crate::specs::Replay::stop_at))]
+fn read_stop(value: &Value) -> Result<StopPoint, ReadError>
+    ensures { Reads result (stop_at (view value.now)) }
+{
+    match stop_named(str(value)?) {
+        Some(stop) => Ok(stop),
+        None => Err(ReadError::Refused),
+    }
+}
+
+// No member stands beside those of a script.
+#[tactic(auto, unfolding(crate::specs::Replay::listed_at))]
+fn only_listed(value: &Value) -> Result<(), ReadError>
+    ensures { Reads result (listed_at (view value.now)) }
+{
+    match value.as_object() {
+        Some(members) => {
+            if all_listed(members) {
+                Ok(())
+            } else {
+                Err(ReadError::Refused)
+            }
+        }
+        None => Err(ReadError::Refused),
+    }
+}
+
+fn all_listed(members: &Map<String, Value>) -> bool
+    ensures { result ≡ members_all is_listed (members_view members.now.entries) }
+{
+    for (name, _) in members.iter() {
+        if !is_listed(name.as_str()) {
+            return false;
+        }
+    }
+    true
+}
+
+#[tactic(auto, unfolding(crate::specs::Replay::is_listed))]
+fn is_listed(name: &str) -> bool
+    ensures { result ≡ is_listed name.now }
+{
+    name == "input"
+        || name == "fuel"
+        || name == "stop"
+        || name == "output_kind"
+        || name == "error_kind"
+        || name == "answers"
+}
+
+// The answers, in their order.
+#[tactic(auto, using(crate::proofs::ScriptAnswers::answer_reading))]
+fn read_answers(alloc: Global, list: &[Value]) -> Result<List<ScriptAnswer>, ReadError>
+    ensures { Reads result (list_of script_answer_at (items_view list.now)) }
+{
+    let mut answers = List::new();
+    for value in list {
+        match script_answer(alloc, value) {
+            Ok(answer) => answers.push(alloc, answer)?,
+            Err(error) => return Err(error),
+        }
+    }
+    Ok(answers)
+}
+
+// A kind as it is printed, and its answer.
+#[tactic(auto, unfolding(crate::specs::Replay::script_answer_at))]
+fn script_answer(alloc: Global, value: &Value) -> Result<ScriptAnswer, ReadError>
+    ensures { Reads result (script_answer_at (view value.now)) }
+{
+    let (kind, answer) = pair(value)?;
+    let kind = read_kind(kind)?;
+    let answer = read_answer(alloc, kind, answer)?;
+    Ok(ScriptAnswer { kind, answer })
+}
+
+/// Whether fuel, texts, bodies, heads and keys of a script are within their limits.
+pub fn is_within(alloc: Global, script: &Script) -> Result<bool, OutOfMemory>
+    ensures { IfOk result (λ b. b ≡ is_within script.now) }
+{
+    let answers = script.answers.as_slice();
+    if script.head.fuel > FUEL_LIMIT || !answers_fit(answers) {
+        return Ok(false);
+    }
+    keys_fit(alloc, answers)
+}
+
+fn answers_fit(answers: &[ScriptAnswer]) -> bool
+    ensures { result ≡ answers_fit answers.now }
+{
+    answers.iter().all(|answer| answer_fits(&answer.answer))
+}
+
+fn keys_fit(alloc: Global, answers: &[ScriptAnswer]) -> Result<bool, OutOfMemory>
+    ensures { IfOk result (λ b. b ≡ keys_fit answers.now) }
+{
+    let mut keys: List<SettingKey> = List::new();
+    for answer in answers {
+        add_keys(alloc, &mut keys, &answer.answer)?;
+        if keys.len() > KEY_LIMIT {
+            return Ok(false);
+        }
+    }
+    Ok(true)
+}

@@ -1,0 +1,9 @@
+pub mod Source
+pub mod Sink
+pub mod Status
+pub mod Streams
+pub mod Said
+pub mod Shell
+pub mod Fixed
+pub mod Memory
+pub mod Determined

@@ -1,0 +1,26 @@
+-- What sources and sinks in memory tell.
+use Rattle.std.specs.Prelude.{ℕ, List, drop, Bool, false, Some, nat_eq}
+use Rattle.std.specs.Io.Cursor.{cursor_inner, cursor_position}
+use Rattle.std.specs.List.{list_any}
+use Rattle.shell.specs.Sink.{SinkView}
+use Rattle.shell.specs.Source.{SourceView}
+use Rattle.shell.specs.declared.memory.MemorySink.{MemorySink}
+use Rattle.shell.specs.declared.memory.MemorySource.{MemorySource}
+use Rattle.shell.specs.declared.memory.SureSink.{SureSink}
+use Rattle.shell.specs.declared.memory.SureSource.{SureSource}
+
+-- the list has this number
+abbrev pub is_listed : ℕ → List ℕ → Bool
+is_listed call list = list_any (λ k. nat_eq k call) list
+
+abbrev pub sure_source_view : SureSource → SourceView
+sure_source_view s = record { left = Some (drop (cursor_position s.bytes) (cursor_inner s.bytes).items); faults = 0 }
+
+abbrev pub source_view : MemorySource → SourceView
+source_view s = record { left = Some (drop (cursor_position s.bytes) (cursor_inner s.bytes).items); faults = s.faults }
+
+abbrev pub sink_view : MemorySink → SinkView
+sink_view s = record { written = Some s.bytes.items; is_lost = false; faults = s.faults }
+
+abbrev pub sure_view : SureSink → SinkView
+sure_view s = record { written = Some s.bytes.items; is_lost = s.is_lost; faults = 0 }

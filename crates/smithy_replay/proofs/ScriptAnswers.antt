@@ -1,4 +1,0 @@
--- Answers that are read one after another.
-use Rattle.runcheck.proofs.ReadLists.{behind-nil, list_more, list_fail, list_end}
-
-pub ruleset answer_reading = (behind-nil, list_more, list_fail, list_end)

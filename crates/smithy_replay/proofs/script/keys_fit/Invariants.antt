@@ -1,6 +1,0 @@
-use Rattle.std.proofs.Common.{◌≡◌, ◌≤◌, [], length, drop}
-use Rattle.smithy_replay.specs.Script.{keys_behind}
-use Rattle.smithy_replay.proofs.script.keys_fit.Given as goal
-
-abbrev pub invariant-loop-answer : goal.invariant-loop-answer
-invariant-loop-answer l = (length l.keys ≤ 64) × (keys_behind l.keys (drop l.answer-index l.answers) ≡ keys_behind [] l.answers)

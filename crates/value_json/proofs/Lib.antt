@@ -1,0 +1,17 @@
+pub mod Joined
+pub mod HeaderReading
+pub mod PrintedForms
+pub mod PrintedNames
+pub mod PrintedHeads
+pub mod PrintedOutcomes
+pub mod PrintedLayers
+pub mod PrintedNotes
+pub mod PrintedAnswers
+pub mod SpelledForms
+pub mod SpelledHeads
+pub mod SpelledOutcomes
+pub mod SpelledLayers
+pub mod LayerReading
+pub mod SpelledAnswers
+pub mod TextBytes
+pub mod Spelled

@@ -1,0 +1,6 @@
+pub mod Names
+pub mod Values
+pub mod Readings
+pub mod SettingReadings
+pub mod AnswerReadings
+pub mod Spellable

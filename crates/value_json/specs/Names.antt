@@ -1,0 +1,172 @@
+-- The names that stand in scripts and prints.
+use Rattle.std.specs.Prelude.{ℕ, List, [], ◌∷◌, ◌++◌, map, codes}
+use Rattle.smithy_types.specs.declared.config.RetryMode.{RetryMode}
+use Rattle.smithy_types.specs.declared.config.RetryMode.TheVariants as modes
+use Rattle.smithy_types.specs.declared.config.RetrySpecVersion.{RetrySpecVersion}
+use Rattle.smithy_types.specs.declared.config.RetrySpecVersion.TheVariants as versions
+use Rattle.smithy_types.specs.declared.config.ReconnectMode.{ReconnectMode}
+use Rattle.smithy_types.specs.declared.config.ReconnectMode.TheVariants as reconnects
+use Rattle.smithy_types.specs.declared.hook.Hook.{Hook}
+use Rattle.smithy_types.specs.declared.hook.Hook.TheVariants as hooks
+use Rattle.smithy_types.specs.declared.kinds.ErrorKind.{ErrorKind}
+use Rattle.smithy_types.specs.declared.kinds.ErrorKind.TheVariants as errors
+use Rattle.smithy_types.specs.declared.kinds.StopPoint.{StopPoint}
+use Rattle.smithy_types.specs.declared.kinds.StopPoint.TheVariants as stops
+use Rattle.run_grammar.specs.declared.kind.Abandonable.{Abandonable}
+use Rattle.run_grammar.specs.declared.kind.Abandonable.TheVariants as abandoned
+use Rattle.run_grammar.specs.declared.kind.ConfigureStage.{ConfigureStage}
+use Rattle.run_grammar.specs.declared.kind.ConfigureStage.TheVariants as stages
+use Rattle.run_grammar.specs.declared.kind.Kind.{Kind}
+use Rattle.run_grammar.specs.declared.kind.Kind.TheVariants as kinds
+use Rattle.run_grammar.specs.declared.kind.Role.{Role}
+use Rattle.run_grammar.specs.declared.kind.Role.TheVariants as roles
+
+abbrev pub hook_text : Hook → List ℕ
+hook_text hooks.ReadBeforeExecutionClient = codes "read_before_execution client"
+hook_text hooks.ReadBeforeExecutionOperation = codes "read_before_execution operation"
+hook_text hooks.ModifyBeforeSerialization = codes "modify_before_serialization"
+hook_text hooks.ReadBeforeSerialization = codes "read_before_serialization"
+hook_text hooks.ReadAfterSerialization = codes "read_after_serialization"
+hook_text hooks.ModifyBeforeRetryLoop = codes "modify_before_retry_loop"
+hook_text hooks.ReadBeforeAttempt = codes "read_before_attempt"
+hook_text hooks.ModifyBeforeSigning = codes "modify_before_signing"
+hook_text hooks.ReadBeforeSigning = codes "read_before_signing"
+hook_text hooks.ReadAfterSigning = codes "read_after_signing"
+hook_text hooks.ModifyBeforeTransmit = codes "modify_before_transmit"
+hook_text hooks.ReadBeforeTransmit = codes "read_before_transmit"
+hook_text hooks.ReadAfterTransmit = codes "read_after_transmit"
+hook_text hooks.ModifyBeforeDeserialization = codes "modify_before_deserialization"
+hook_text hooks.ReadBeforeDeserialization = codes "read_before_deserialization"
+hook_text hooks.ReadAfterDeserialization = codes "read_after_deserialization"
+hook_text hooks.ModifyBeforeAttemptCompletion = codes "modify_before_attempt_completion"
+hook_text hooks.ReadAfterAttempt = codes "read_after_attempt"
+hook_text hooks.ModifyBeforeCompletion = codes "modify_before_completion"
+hook_text hooks.ReadAfterExecution = codes "read_after_execution"
+
+abbrev pub role_text : Role → List ℕ
+role_text roles.Operation = codes "Operation"
+role_text roles.Attempt = codes "Attempt"
+role_text roles.Send = codes "Send"
+role_text roles.Retry = codes "Retry"
+role_text roles.LongPoll = codes "LongPoll"
+
+abbrev pub stage_text : ConfigureStage → List ℕ
+stage_text stages.Client = codes "Client"
+stage_text stages.Operation = codes "Operation"
+stage_text stages.Final = codes "Final"
+
+abbrev pub abandoned_text : Abandonable → List ℕ
+abandoned_text abandoned.Load = codes "Load"
+abandoned_text abandoned.Choose = codes "Choose"
+abandoned_text abandoned.Endpoint = codes "Endpoint"
+abandoned_text abandoned.Transmit = codes "Transmit"
+abandoned_text abandoned.Body = codes "Body"
+abandoned_text abandoned.WaitSend = codes "Wait Send"
+abandoned_text abandoned.WaitRetry = codes "Wait Retry"
+abandoned_text abandoned.WaitLongPoll = codes "Wait LongPoll"
+
+-- what stands before the name of a kind with a part
+abbrev pub kind_front : Kind → List ℕ
+kind_front (kinds.Configure stage) = codes "Configure "
+kind_front (kinds.Hook hook) = codes "Hook "
+kind_front (kinds.Start role) = codes "Start "
+kind_front (kinds.Wait role) = codes "Wait "
+kind_front (kinds.Abandon kind) = codes "Abandon "
+kind_front kinds.Serialize = []
+kind_front kinds.Load = []
+kind_front kinds.Initial = []
+kind_front kinds.Choose = []
+kind_front kinds.Endpoint = []
+kind_front kinds.Apply = []
+kind_front kinds.Sign = []
+kind_front kinds.Transmit = []
+kind_front kinds.Stream = []
+kind_front kinds.Body = []
+kind_front kinds.Deserialize = []
+kind_front kinds.Decide = []
+kind_front kinds.Park = []
+
+abbrev pub kind_name : Kind → List ℕ
+kind_name (kinds.Configure stage) = stage_text stage
+kind_name (kinds.Hook hook) = hook_text hook
+kind_name (kinds.Start role) = role_text role
+kind_name (kinds.Wait role) = role_text role
+kind_name (kinds.Abandon kind) = abandoned_text kind
+kind_name kinds.Serialize = codes "Serialize"
+kind_name kinds.Load = codes "Load"
+kind_name kinds.Initial = codes "Initial"
+kind_name kinds.Choose = codes "Choose"
+kind_name kinds.Endpoint = codes "Endpoint"
+kind_name kinds.Apply = codes "Apply"
+kind_name kinds.Sign = codes "Sign"
+kind_name kinds.Transmit = codes "Transmit"
+kind_name kinds.Stream = codes "Stream"
+kind_name kinds.Body = codes "Body"
+kind_name kinds.Deserialize = codes "Deserialize"
+kind_name kinds.Decide = codes "Decide"
+kind_name kinds.Park = codes "Park"
+
+abbrev pub kind_text : Kind → List ℕ
+kind_text k = kind_front k ++ kind_name k
+
+abbrev pub error_kind_text : ErrorKind → List ℕ
+error_kind_text errors.TransientError = codes "TransientError"
+error_kind_text errors.ThrottlingError = codes "ThrottlingError"
+error_kind_text errors.ServerError = codes "ServerError"
+error_kind_text errors.ClientError = codes "ClientError"
+
+abbrev pub stop_text : StopPoint → List ℕ
+stop_text stops.None = codes "None"
+stop_text stops.BeforeTransmit = codes "BeforeTransmit"
+
+abbrev pub version_text : RetrySpecVersion → List ℕ
+version_text versions.V2_0 = codes "V2_0"
+version_text versions.V2_1 = codes "V2_1"
+
+abbrev pub mode_text : RetryMode → List ℕ
+mode_text modes.Standard = codes "Standard"
+mode_text modes.Adaptive = codes "Adaptive"
+
+abbrev pub reconnect_text : ReconnectMode → List ℕ
+reconnect_text reconnects.ReconnectOnTransientError = codes "ReconnectOnTransientError"
+reconnect_text reconnects.ReuseAllConnections = codes "ReuseAllConnections"
+
+-- ---- all values of each kind
+
+abbrev pub error_kinds : List ErrorKind
+error_kinds = errors.TransientError ∷ errors.ThrottlingError ∷ errors.ServerError ∷ errors.ClientError ∷ []
+
+abbrev pub stop_points : List StopPoint
+stop_points = stops.None ∷ stops.BeforeTransmit ∷ []
+
+abbrev pub spec_versions : List RetrySpecVersion
+spec_versions = versions.V2_0 ∷ versions.V2_1 ∷ []
+
+abbrev pub retry_modes : List RetryMode
+retry_modes = modes.Standard ∷ modes.Adaptive ∷ []
+
+abbrev pub reconnect_modes : List ReconnectMode
+reconnect_modes = reconnects.ReconnectOnTransientError ∷ reconnects.ReuseAllConnections ∷ []
+
+abbrev pub all_hooks : List Hook
+all_hooks = hooks.ReadBeforeExecutionClient ∷ hooks.ReadBeforeExecutionOperation ∷ hooks.ModifyBeforeSerialization ∷ hooks.ReadBeforeSerialization ∷ hooks.ReadAfterSerialization
+    ∷ hooks.ModifyBeforeRetryLoop ∷ hooks.ReadBeforeAttempt ∷ hooks.ModifyBeforeSigning ∷ hooks.ReadBeforeSigning ∷ hooks.ReadAfterSigning ∷ hooks.ModifyBeforeTransmit
+    ∷ hooks.ReadBeforeTransmit ∷ hooks.ReadAfterTransmit ∷ hooks.ModifyBeforeDeserialization ∷ hooks.ReadBeforeDeserialization ∷ hooks.ReadAfterDeserialization
+    ∷ hooks.ModifyBeforeAttemptCompletion ∷ hooks.ReadAfterAttempt ∷ hooks.ModifyBeforeCompletion ∷ hooks.ReadAfterExecution ∷ []
+
+abbrev pub all_roles : List Role
+all_roles = roles.Operation ∷ roles.Attempt ∷ roles.Send ∷ roles.Retry ∷ roles.LongPoll ∷ []
+
+abbrev pub all_stages : List ConfigureStage
+all_stages = stages.Client ∷ stages.Operation ∷ stages.Final ∷ []
+
+abbrev pub all_abandoned : List Abandonable
+all_abandoned = abandoned.Load ∷ abandoned.Choose ∷ abandoned.Endpoint ∷ abandoned.Transmit ∷ abandoned.Body ∷ abandoned.WaitSend ∷ abandoned.WaitRetry ∷ abandoned.WaitLongPoll ∷ []
+
+-- those without a part
+abbrev pub plain_kinds : List Kind
+plain_kinds = kinds.Serialize ∷ kinds.Load ∷ kinds.Initial ∷ kinds.Choose ∷ kinds.Endpoint ∷ kinds.Apply ∷ kinds.Sign ∷ kinds.Transmit ∷ kinds.Stream ∷ kinds.Body
+    ∷ kinds.Deserialize ∷ kinds.Decide ∷ kinds.Park ∷ []
+
+abbrev pub all_kinds : List Kind
+all_kinds = map kinds.Configure all_stages ++ map kinds.Hook all_hooks ++ plain_kinds ++ map kinds.Start all_roles ++ map kinds.Wait all_roles ++ map kinds.Abandon all_abandoned

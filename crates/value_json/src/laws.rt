@@ -1,0 +1,38 @@
+//! Printing and reading are two directions of one thing. Each law is the contract of a function
+//! without a body.
+ghost use Rattle.std.specs.Prelude.{◌≡◌, Some, true};
+ghost use Rattle.serde_json.specs.View.{view};
+ghost use Rattle.serde_json.specs.declared.value.Value.{Value};
+ghost use Rattle.smithy_types.specs.declared.payload.Payload.{Payload};
+ghost use Rattle.run_grammar.specs.Fits.{fits};
+ghost use Rattle.run_grammar.specs.declared.answer.Answer.{Answer};
+ghost use Rattle.run_grammar.specs.declared.kind.Kind.{Kind};
+ghost use Rattle.value_json.specs.AnswerReadings.{answer_at, kind_at};
+ghost use Rattle.value_json.specs.Readings.{payload_at};
+ghost use Rattle.value_json.specs.Spellable.{answer_spellable, payload_spellable};
+ghost use Rattle.value_json.specs.Values.{answer_data, kind_data, payload_data};
+
+/// What an answer that JSON can spell prints as is read as that answer, at each kind of question
+/// that it fits.
+pub fn printed_answers_are_read()
+    ensures { (k : Kind) (a : Answer) → fits k a ≡ true → answer_spellable a ≡ true → answer_at k (answer_data a) ≡ Some a }
+{}
+
+/// What is read of a JSON value fits its question, and is an answer that JSON can spell. So it
+/// prints as JSON that is read as the same answer.
+pub fn read_answers_can_be_spelled()
+    ensures fitting { (k : Kind) (v : Value) (a : Answer) → answer_at k (view v) ≡ Some a → fits k a ≡ true }
+    ensures spellable { (k : Kind) (v : Value) (a : Answer) → answer_at k (view v) ≡ Some a → answer_spellable a ≡ true }
+    ensures again { (k : Kind) (v : Value) (a : Answer) → answer_at k (view v) ≡ Some a → answer_at k (answer_data a) ≡ Some a }
+{}
+
+/// What a kind prints as is read as that kind.
+pub fn printed_kinds_are_read()
+    ensures { (k : Kind) → kind_at (kind_data k) ≡ Some k }
+{}
+
+/// What a payload of Rust's type prints as is read as that payload, and what is read is one.
+pub fn printed_payloads_are_read()
+    ensures printed { (p : Payload) → payload_spellable p ≡ true → payload_at (payload_data p) ≡ Some p }
+    ensures read { (v : Value) (p : Payload) → payload_at (view v) ≡ Some p → payload_spellable p ≡ true }
+{}
