@@ -138,3 +138,6 @@ pub(crate) fn retry_for(kind: Option<ErrorKind>) -> RetryAction
         None => RetryAction::NoActionIndicated,
     }
 }
+
+#[cfg(test)]
+mod tests;

@@ -25,3 +25,6 @@ pub use standard::StandardRetryStrategy;
 pub use status::HttpStatusCodeClassifier;
 pub use token_bucket_provider::TokenBucketProvider;
 pub use transient::TransientErrorClassifier;
+
+#[cfg(test)]
+mod tests;

@@ -144,11 +144,11 @@ fn a_further_grant_forgets_the_former_and_closing_gives_the_last_back(rt: HostRu
     assert_eq!(rt; after_two_grants(rt.alloc()), Ok(expected));
 }
 
-/// What a failed first attempt is answered under this retry setting, from a bucket of 10 tokens
-/// whose transient retries cost 14.
-fn refused_by(alloc: Global, retry: RetryConfig) -> Result<Decision, StrategyError> {
+/// What a failed first attempt is answered under this retry setting, from a bucket of so many
+/// tokens whose transient retries cost 14.
+fn answered(alloc: Global, capacity: u64, retry: RetryConfig) -> Result<Decision, StrategyError> {
     let bucket = TokenBucket::builder()
-        .capacity(10)
+        .capacity(capacity)
         .timeout_retry_cost(14)
         .build();
     let mut quota = registry(alloc, bucket)?;
@@ -162,21 +162,50 @@ fn refused_by(alloc: Global, retry: RetryConfig) -> Result<Decision, StrategyErr
 }
 
 #[test]
-fn attempts_and_tokens_run_out(rt: HostRuntime) {
+fn attempts_run_out(rt: HostRuntime) {
     let mut none = static_base();
     none.max_attempts = 0;
     let out_of_attempts = refused(Reason::OutOfAttempts);
-    assert_eq!(rt; refused_by(rt.alloc(), none), Ok(out_of_attempts));
-    let mut polling = static_base();
-    polling.spec = Some(RetrySpec {
+    assert_eq!(rt; answered(rt.alloc(), 10, none), Ok(out_of_attempts));
+}
+
+/// Version 2.1, whose first backoff is 50 ms where nothing was throttled.
+fn second_version(long_polling: bool) -> RetryConfig {
+    let mut retry = static_base();
+    retry.spec = Some(RetrySpec {
         version: RetrySpecVersion::V2_1,
-        long_polling: true,
+        long_polling,
         non_throttling_initial_backoff: 50_000_000,
     });
-    let pausing = Decision {
+    retry
+}
+
+/// A retry that the bucket refused.
+fn without_tokens(long_poll: Option<u64>) -> Decision {
+    Decision {
         choice: Choice::No,
         reason: Reason::NoQuota { cost: 14 },
-        long_poll: Some(50_000_000),
+        long_poll,
+    }
+}
+
+#[test]
+fn tokens_run_out_with_a_pause_where_the_operation_polls_for_long(rt: HostRuntime) {
+    let polling = answered(rt.alloc(), 10, second_version(true));
+    assert_eq!(rt; polling, Ok(without_tokens(Some(50_000_000))));
+    let plain = answered(rt.alloc(), 10, second_version(false));
+    assert_eq!(rt; plain, Ok(without_tokens(None)));
+}
+
+#[test]
+fn a_retry_under_v2_1_waits_the_backoff_of_what_is_not_throttling(rt: HostRuntime) {
+    let granted = Decision {
+        choice: Choice::Delay(50_000_000),
+        reason: Reason::Granted { amount: 14 },
+        long_poll: None,
     };
-    assert_eq!(rt; refused_by(rt.alloc(), polling), Ok(pausing));
+    assert_eq!(rt;
+        answered(rt.alloc(), 14, second_version(false)),
+        Ok(granted)
+    );
 }
