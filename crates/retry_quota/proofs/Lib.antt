@@ -1,4 +1,4 @@
-mod BookLemmas
+pub mod BookLemmas
 pub mod CallLemmas
 mod PlaceLemmas
 mod RegisterLemmas

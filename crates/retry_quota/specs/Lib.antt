@@ -4,3 +4,4 @@ pub mod History
 pub mod Meaning
 pub mod Place
 pub mod Registers
+pub mod State

@@ -9,6 +9,7 @@ pub mod partition_table;
 pub mod permit;
 pub mod quota;
 pub mod registry;
+pub mod state;
 pub mod static_partition_map;
 pub mod token_bucket;
 
@@ -20,6 +21,7 @@ pub use permit::Permit;
 pub use quota::Quota;
 pub use registry::Registry;
 pub use smithy_types::{RetryPartition, RetryPartitionBuilder, Sums};
+pub use state::{BucketState, BucketTerms};
 pub use static_partition_map::StaticPartitionMap;
 pub use token_bucket::TokenBucket;
 

@@ -12,11 +12,15 @@ ghost use Rattle.retry_quota.specs.Book.{
   refill,
   sums_of,
   IsBalanced,
+  IsSound,
 };
+ghost use Rattle.retry_quota.specs.State.{book_from, terms_in, state_in};
 ghost use Rattle.retry_quota.specs.History.{after, acquire_reply, reply_to};
 ghost use Rattle.retry_quota.specs.History.{Acquire, Release, Forget, Reward, Regenerate, Convert};
 
-use crate::{MAXIMUM_CAPACITY, Permit, QuotaError, Sums, TokenBucketBuilder};
+use crate::{
+    BucketState, BucketTerms, MAXIMUM_CAPACITY, Permit, QuotaError, Sums, TokenBucketBuilder,
+};
 use smithy_types::ErrorKind;
 use std::marker::Model;
 
@@ -234,6 +238,56 @@ impl TokenBucket {
             available: self.available,
             held: self.held,
             forgotten: self.forgotten,
+        }
+    }
+
+    /// A bucket with these terms, in this state. Its tokens must balance.
+    pub fn of(terms: BucketTerms, state: BucketState) -> TokenBucket
+        requires { IsSound (book_from terms state) }
+        ensures { result ≡ book_from terms state }
+    {
+        TokenBucket {
+            capacity: terms.capacity,
+            retry_cost: terms.retry_cost,
+            throttling_retry_cost: terms.throttling_retry_cost,
+            timeout_retry_cost: terms.timeout_retry_cost,
+            success_reward: terms.success_reward,
+            refill_rate: terms.refill_rate,
+            granted: state.granted,
+            available: state.available,
+            held: state.held,
+            forgotten: state.forgotten,
+            fraction: state.fraction,
+            last_refill_secs: state.last_refill_secs,
+        }
+    }
+
+    /// What no step changes.
+    pub fn terms(&self) -> BucketTerms
+        ensures { result ≡ terms_in self.now }
+    {
+        BucketTerms {
+            capacity: self.capacity,
+            retry_cost: self.retry_cost,
+            throttling_retry_cost: self.throttling_retry_cost,
+            timeout_retry_cost: self.timeout_retry_cost,
+            success_reward: self.success_reward,
+            refill_rate: self.refill_rate,
+        }
+    }
+
+    /// What steps change.
+    pub fn state(&self) -> BucketState
+        ensures state { result ≡ state_in self.now }
+        ensures sound { IsSound self.now }
+    {
+        BucketState {
+            granted: self.granted,
+            available: self.available,
+            held: self.held,
+            forgotten: self.forgotten,
+            fraction: self.fraction,
+            last_refill_secs: self.last_refill_secs,
         }
     }
 
