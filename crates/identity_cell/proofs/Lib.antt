@@ -1,3 +1,4 @@
+pub mod Backoffs
 pub mod CellLemmas
 pub mod HistoryLemmas
 pub mod Lawful

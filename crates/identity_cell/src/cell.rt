@@ -197,6 +197,13 @@ impl<T: Clone + Drop> CellCore<T> {
         self.log.as_slice()
     }
 
+    /// How many loads were begun in the cell.
+    pub fn loads(&self) -> u64
+        ensures { result ≡ begun_in self.now.events }
+    {
+        self.log.begun()
+    }
+
     /// Whether the load of this ticket is open.
     pub fn is_open(&self, ticket: u64) -> bool
         ensures { result ≡ is_open self.now.state ticket }
