@@ -1,2 +1,4 @@
 mod DecisionLemmas
+mod GrantLemmas
+mod StepLemmas
 mod WaitLemmas

@@ -3,4 +3,5 @@ pub mod Classifying
 pub mod Decision
 pub mod Interceptors
 pub mod Standing
+pub mod Steps
 pub mod Verdict
