@@ -1,2 +1,0 @@
-pub mod PreferenceLemmas
-pub mod ChoiceLemmas
