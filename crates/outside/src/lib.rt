@@ -1,0 +1,9 @@
+//! What lies outside of a client: the connector and its bodies, the clock and its sleeps, loads of
+//! identities, random words, and waiting.
+#![tactic(auto)]
+
+pub mod answers;
+pub mod outside;
+
+pub use answers::{IdentityPoll, Polled, Sent};
+pub use outside::Outside;
