@@ -59,7 +59,8 @@ impl ExploredList {
         lack: ExploreResult,
     ) -> Result<(), OutOfMemory>
         ensures { OnOk result ((all : _) → KeepsFirst all self.old
-            → KeepsFirst (all ++ record { scheme_id = scheme_id.now; result = lack } ∷ []) self.new) }
+            → KeepsFirst
+            (all ++ record { scheme_id = scheme_id.now; result = lack } ∷ []) self.new) }
     {
         if self.items.len() < MAX_EXPLORED {
             let scheme_id = scheme_id.clone()?;
