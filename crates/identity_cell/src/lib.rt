@@ -11,6 +11,8 @@ pub mod laws;
 pub mod lazy_builder;
 pub mod lazy_terms;
 pub mod log;
+pub mod no_auth;
+pub mod resolve_identity;
 pub mod timeout;
 
 pub use cell::{Begin, CellCore, CellState, Cleared};
@@ -21,4 +23,6 @@ pub use identity_cache::{IdentityCache, SharedIdentityCache};
 pub use lazy_builder::LazyCacheBuilder;
 pub use lazy_terms::LazyCacheTerms;
 pub use log::EventLog;
+pub use no_auth::{NoAuthIdentity, NoAuthIdentityResolver};
+pub use resolve_identity::{IdentityPoll, ResolveIdentity};
 pub use timeout::load_timeout;

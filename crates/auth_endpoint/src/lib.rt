@@ -1,0 +1,17 @@
+//! How an auth scheme is chosen, and how an endpoint is applied to a request.
+#![tactic(auto)]
+
+pub mod apply;
+pub mod choice;
+pub mod endpoint_error;
+pub mod explored;
+pub mod no_match;
+pub mod preference;
+
+pub use apply::apply_endpoint;
+pub use choice::{Place, choose};
+pub use endpoint_error::EndpointError;
+pub use explored::{
+    ExploreResult, ExploredAuthOption, ExploredList, NO_AUTH_SCHEME_ID, NoMatchingAuthSchemeError,
+};
+pub use preference::reprioritize;

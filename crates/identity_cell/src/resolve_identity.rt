@@ -1,0 +1,28 @@
+//! What resolves the identity that a request is signed with.
+use smithy_types::{Identity, OutOfMemory, Text};
+use std::alloc::Global;
+
+/// What one ask for an identity comes to.
+#[derive(Debug, Drop)]
+pub enum IdentityPoll {
+    /// It isn't there yet. Another ask may bring it.
+    Pending,
+    /// The identity.
+    Ready(Identity),
+    /// Why there is none.
+    Failed(Text),
+}
+
+/// Resolves the identities of one auth scheme. It may change as it is asked.
+pub trait ResolveIdentity: Drop {
+    ghost use Rattle.std.specs.Prelude.{◌≡◌, IfOk, OnErr};
+    ghost use Rattle.identity_cell.specs.declared.resolve_identity.IdentityPoll.{IdentityPoll};
+
+    /// What an ask may answer, and what it leaves of the resolver.
+    ghost polls: { Self → IdentityPoll → Self → Type 0 };
+
+    /// Asks once. After a refusal the resolver is as it was.
+    fn poll(&mut self, alloc: Global) -> Result<IdentityPoll, OutOfMemory>
+        ensures ok { IfOk result (λ answer. polls self.old answer self.new) }
+        ensures err { OnErr result (self.new ≡ self.old) };
+}
