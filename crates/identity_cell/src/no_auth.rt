@@ -1,5 +1,6 @@
 //! The identity of a request that isn't signed.
-use crate::resolve_identity::{IdentityPoll, ResolveIdentity};
+use crate::resolve_identity::ResolveIdentity;
+use outside::IdentityPoll;
 use smithy_types::{Blob, Identity, OutOfMemory};
 use std::alloc::Global;
 
@@ -52,7 +53,7 @@ impl Default for NoAuthIdentityResolver {
 
 impl ResolveIdentity for NoAuthIdentityResolver {
     ghost use Rattle.std.specs.Prelude.{◌≡◌, [], None};
-    ghost use Rattle.identity_cell.specs.declared.resolve_identity.IdentityPoll.TheVariants.{Ready};
+    ghost use Rattle.outside.specs.declared.answers.IdentityPoll.TheVariants.{Ready};
 
     ghost polls = { λ old answer new.
         (answer ≡ Ready (record { content = []; expiration = None }))

@@ -1,22 +1,13 @@
 //! What resolves the identity that a request is signed with.
-use smithy_types::{Identity, OutOfMemory, Text};
-use std::alloc::Global;
+pub use outside::IdentityPoll;
 
-/// What one ask for an identity comes to.
-#[derive(Debug, Drop)]
-pub enum IdentityPoll {
-    /// It isn't there yet. Another ask may bring it.
-    Pending,
-    /// The identity.
-    Ready(Identity),
-    /// Why there is none.
-    Failed(Text),
-}
+use smithy_types::OutOfMemory;
+use std::alloc::Global;
 
 /// Resolves the identities of one auth scheme. It may change as it is asked.
 pub trait ResolveIdentity: Drop {
     ghost use Rattle.std.specs.Prelude.{◌≡◌, IfOk, OnErr};
-    ghost use Rattle.identity_cell.specs.declared.resolve_identity.IdentityPoll.{IdentityPoll};
+    ghost use Rattle.outside.specs.declared.answers.IdentityPoll.{IdentityPoll};
 
     /// What an ask may answer, and what it leaves of the resolver.
     ghost polls: { Self → IdentityPoll → Self → Type 0 };

@@ -1,5 +1,5 @@
 -- The count of the failures that an outside handed out.
-use Rattle.std.specs.Prelude.{◌≡◌, ℕ, ◌-◌, ◌^◌, ◌≤◌, ◌<◌, ◌⊎◌, Bool, true, false, Result, Ok, Err}
+use Rattle.std.specs.Prelude.{◌≡◌, ℕ, ◌-◌, ◌^◌, ◌≤◌, ◌<◌, ◌⊎◌, Bool, true, false, Result, Ok}
 use Rattle.smithy_types.specs.declared.memory.OutOfMemory.{OutOfMemory}
 use Rattle.outside.specs.Calls.{OutsideCall, Poll, Frame, Resolve}
 use Rattle.outside.specs.declared.answers.IdentityPoll.{IdentityPoll}

@@ -3,7 +3,9 @@
 #![tactic(auto)]
 
 pub mod answers;
+pub mod clock;
 pub mod outside;
 
 pub use answers::{IdentityPoll, Polled, Sent};
+pub use clock::present;
 pub use outside::Outside;
