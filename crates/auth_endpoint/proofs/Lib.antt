@@ -1,2 +1,4 @@
 pub mod PreferenceLemmas
 pub mod ChoiceLemmas
+pub mod WalkLemmas
+pub mod CauseLemmas

@@ -113,27 +113,47 @@ RefusesHeaders map headers = RefusesSome with_header RefusesHeader map headers
 
 -- ---- the request
 
--- the request's URI and the endpoint's URL are cut so
-pub record AreRead (request : HttpRequest) (endpoint : Endpoint) (uri url : Target) : Type 0 where
-  pub target : Spells request.uri uri
-  pub front : Spells endpoint.url url
+-- the request's target and the endpoint's URL are cut so
+pub record AreRead (target front : List ℕ) (uri url : Target) : Type 0 where
+  pub target_spells : Spells target uri
+  pub front_spells : Spells front url
 
 -- what is so of the two cuts
-abbrev pub Reading : HttpRequest → Endpoint → (Target → Target → Type 0) → Type 0
-Reading request endpoint P = (uri : Target) × (url : Target) × AreRead request endpoint uri url × P uri url
+abbrev pub Reading : List ℕ → List ℕ → (Target → Target → Type 0) → Type 0
+Reading target front P = (uri : Target) × (url : Target) × AreRead target front uri url × P uri url
+
+-- the text is that of the applied URI
+abbrev pub IsAppliedText : Target → Target → Option (List ℕ) → List ℕ → Type 0
+IsAppliedText uri url prefix text = (applied : Target) × IsApplied uri url prefix applied × (text ≡ uri_text applied)
+
+-- the causes of a refused target, in their order
+abbrev pub CantRead : List ℕ → List ℕ → Option (List ℕ) → EndpointError → Type 0
+CantRead target front prefix =
+    HasCause
+    (SpellsNone target ⊎ SpellsNone front)
+    (Reading target front (λ uri url. CantApply uri url prefix BadAuthority))
+    (Reading target front (λ uri url. CantApply uri url prefix NoScheme))
+    (Reading target front (λ uri url. CantApply uri url prefix BadUri))
+    ⊥
 
 -- the request goes to the applied URI, with the endpoint's headers; the rest of it stays
-abbrev pub IsSent : HttpRequest → Endpoint → Option (List ℕ) → HttpRequest → Type 0
-IsSent old endpoint prefix new =
-    Reading old endpoint (λ uri url. (applied : Target) × IsApplied uri url prefix applied × (new ≡ record old { uri = uri_text applied; headers = with_headers old.headers endpoint.headers }))
-    × ¬ (RefusesHeaders old.headers endpoint.headers)
+pub record IsSent (old : HttpRequest) (endpoint : Endpoint) (prefix : Option (List ℕ)) (new : HttpRequest) : Type 0 where
+  pub target : List ℕ
+  pub applied : Reading old.uri endpoint.url (λ uri url. IsAppliedText uri url prefix target)
+  pub request : new ≡ record old { uri = target; headers = with_headers old.headers endpoint.headers }
+  pub headers_fit : ¬ (RefusesHeaders old.headers endpoint.headers)
+
+-- the target is applied, and a header is refused
+pub record HasBadHeader (request : HttpRequest) (endpoint : Endpoint) (prefix : Option (List ℕ)) : Type 0 where
+  pub target : List ℕ
+  pub applied : Reading request.uri endpoint.url (λ uri url. IsAppliedText uri url prefix target)
+  pub refused : RefusesHeaders request.headers endpoint.headers
 
 -- the causes of a refused request, in their order
 abbrev pub CantSend : HttpRequest → Endpoint → Option (List ℕ) → EndpointError → Type 0
-CantSend request endpoint prefix =
-    HasCause
-    (SpellsNone request.uri ⊎ SpellsNone endpoint.url)
-    (Reading request endpoint (λ uri url. CantApply uri url prefix BadAuthority))
-    (Reading request endpoint (λ uri url. CantApply uri url prefix NoScheme))
-    (Reading request endpoint (λ uri url. CantApply uri url prefix BadUri))
-    (Reading request endpoint (λ uri url. (applied : Target) × IsApplied uri url prefix applied) × RefusesHeaders request.headers endpoint.headers)
+CantSend request endpoint prefix BadUrl = CantRead request.uri endpoint.url prefix BadUrl
+CantSend request endpoint prefix BadAuthority = CantRead request.uri endpoint.url prefix BadAuthority
+CantSend request endpoint prefix NoScheme = CantRead request.uri endpoint.url prefix NoScheme
+CantSend request endpoint prefix BadUri = CantRead request.uri endpoint.url prefix BadUri
+CantSend request endpoint prefix BadHeader = HasBadHeader request endpoint prefix
+CantSend request endpoint prefix OutOfMemory = ⊤

@@ -2,7 +2,6 @@
 ghost use Rattle.std.specs.Prelude.{◌≡◌, Some};
 
 use smithy_types::OutOfMemory;
-use std::alloc::AllocError;
 use std::error::Error;
 use std::fmt;
 
@@ -30,16 +29,6 @@ impl From<OutOfMemory> for EndpointError {
     ghost from_gives = { λ _ e. e ≡ refusal.OutOfMemory };
 
     fn from(_error: OutOfMemory) -> EndpointError {
-        EndpointError::OutOfMemory
-    }
-}
-
-impl From<AllocError> for EndpointError {
-    ghost use Rattle.auth_endpoint.specs.declared.endpoint_error.EndpointError.TheVariants as refusal;
-
-    ghost from_gives = { λ _ e. e ≡ refusal.OutOfMemory };
-
-    fn from(_error: AllocError) -> EndpointError {
         EndpointError::OutOfMemory
     }
 }

@@ -5,8 +5,11 @@ pub mod apply;
 pub mod choice;
 pub mod endpoint_error;
 pub mod explored;
+mod headers;
 pub mod no_match;
 pub mod preference;
+pub mod request;
+pub mod resolver;
 
 pub use apply::apply_endpoint;
 pub use choice::{Place, choose};
@@ -15,3 +18,5 @@ pub use explored::{
     ExploreResult, ExploredAuthOption, ExploredList, NO_AUTH_SCHEME_ID, NoMatchingAuthSchemeError,
 };
 pub use preference::reprioritize;
+pub use request::apply_endpoint_to_request;
+pub use resolver::{StaticUriEndpointResolver, StaticUriEndpointResolverParams};
