@@ -2,6 +2,9 @@ pub mod Builder
 pub mod Cell
 pub mod Expiry
 pub mod History
+pub mod LazyCache
+pub mod LoadSleep
 pub mod Log
 pub mod Runs
 pub mod Timeout
+pub mod Waiting
