@@ -6,5 +6,6 @@ pub mod LazyCache
 pub mod LoadSleep
 pub mod Log
 pub mod Runs
+pub mod Shared
 pub mod Timeout
 pub mod Waiting
