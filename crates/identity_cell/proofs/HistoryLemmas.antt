@@ -26,7 +26,7 @@ option_and_then_of_some : {A : Type 0} (o : Option A) → option_and_then (λ x.
 option_and_then_of_some None = refl
 option_and_then_of_some (Some x) = refl
 
-some_injective : {A : Type 0} {x y : A} → Some x ≡ Some y → x ≡ y
+pub some_injective : {A : Type 0} {x y : A} → Some x ≡ Some y → x ≡ y
 some_injective h = cc
 
 -- where a history leads somewhere, one event more leads where it may go from there

@@ -12,7 +12,7 @@ use Rattle.identity_cell.specs.Runs.{open_after, open_loads_from, open_loads}
 use Rattle.identity_cell.proofs.HistoryLemmas.{replay_from-append}
 
 -- what a guarded answer says
-guarded : {A : Type 0} (b : Bool) (x y : A) → cond b (Some x) None ≡ Some y → (b ≡ true) × (x ≡ y)
+pub guarded : {A : Type 0} (b : Bool) (x y : A) → cond b (Some x) None ≡ Some y → (b ≡ true) × (x ≡ y)
 guarded true x y h = (refl, cc)
 guarded false x y h = cc
 
@@ -87,7 +87,7 @@ at_most_one Empty = omega arith
 at_most_one (Loading t) = omega arith
 at_most_one (Full t x) = omega arith
 
-was_some : {A : Type 0} (o : Option A) → IsSome o → (x : A) × (o ≡ Some x)
+pub was_some : {A : Type 0} (o : Option A) → IsSome o → (x : A) × (o ≡ Some x)
 was_some (Some x) h = (x, refl)
 was_some None h = cc
 

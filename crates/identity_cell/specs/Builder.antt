@@ -1,5 +1,5 @@
 -- What the parts of an identity cache make.
-use Rattle.std.specs.Prelude.{ℕ, ◌==◌, nat_lt, false, Option, Some, None, if◌then◌else◌}
+use Rattle.std.specs.Prelude.{◌==◌, nat_lt, false, Option, Some, None, if◌then◌else◌}
 use Rattle.std.specs.Option.{unwrap_or}
 use Rattle.smithy_types.specs.declared.build_error.BuildError.{BuildError}
 use Rattle.smithy_types.specs.declared.build_error.BuildError.TheVariants.{ZeroPartitions, ShortExpiration}

@@ -2,6 +2,10 @@ pub mod Builder
 pub mod Cell
 pub mod Expiry
 pub mod History
+pub mod LazyCache
+pub mod LoadSleep
 pub mod Log
 pub mod Runs
+pub mod Shared
 pub mod Timeout
+pub mod Waiting

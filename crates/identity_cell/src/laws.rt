@@ -1,11 +1,16 @@
 //! What holds of every cell, whatever calls were made.
 
-ghost use Rattle.std.specs.Prelude.{◌≡◌, ℕ, ◌≤◌, Some, List, [], ◌∷◌, ◌++◌, length};
-ghost use Rattle.identity_cell.specs.History.{IsLegal, replay, Empty};
+ghost use Rattle.std.specs.Prelude.{◌≡◌, ℕ, ◌+◌, ◌<◌, ◌≤◌, Bool, Some, List, [], ◌∷◌, ◌++◌, length};
+ghost use Rattle.identity_cell.specs.History.{IsLegal, replay, begun_in, Empty, Loading};
 ghost use Rattle.identity_cell.specs.Cell.{Cell, empty_cell, IsReplayed};
-ghost use Rattle.identity_cell.specs.Runs.{open_loads, Call, Makes, Run, answered, WasStored};
+ghost use Rattle.identity_cell.specs.Runs.{open_loads, Call, Began, Asked, Makes, Run, answered, WasStored};
+ghost use Rattle.identity_cell.specs.Waiting.{EndedIn};
+ghost use Rattle.identity_cell.specs.declared.cell.Begin.{Begin};
+ghost use Rattle.identity_cell.specs.declared.cell.CellState.TheVariants as state;
+ghost use Rattle.identity_cell.specs.declared.cell.Cleared.{Cleared};
 ghost use Rattle.identity_cell.specs.declared.event.Event.{Event};
 ghost use Rattle.identity_cell.specs.declared.event.Event.TheVariants.{Dropped};
+ghost use Rattle.identity_cell.specs.declared.event.Event.TheVariants as event;
 
 /// In a legal history at most one load is open at any place.
 pub fn one_open_load()
@@ -28,4 +33,21 @@ pub fn answered_value_was_stored<T: Clone>()
     ensures { (buffer : ℕ) (calls : List (Call T)) (next : Call T) (cell after : Cell T) (copy : T) →
         Run T.is_clone (empty_cell buffer) calls cell → Makes T.is_clone cell next after → answered next ≡ Some copy →
         WasStored T.is_clone (empty_cell buffer) calls cell copy }
+{}
+
+/// Where a caller was told to wait for a load, the next load begins only after that one failed or
+/// was dropped, or after its value was removed.
+pub fn a_load_that_was_met_ends_before_the_next()
+    ensures { (buffer : ℕ) (before between : List Event) (ticket next : ℕ) →
+        replay buffer before ≡ Some (Loading ticket) →
+        IsLegal buffer (before ++ event.Wait ∷ between ++ event.Begin next ∷ []) →
+        EndedIn buffer ticket between }
+{}
+
+/// A caller that finds a value which hasn't expired, and then asks to load, begins no load.
+pub fn an_unexpired_value_begins_no_load<T: Clone>()
+    ensures { (old mid new : Cell T) (ticket expiry now : ℕ) (value : T) (waited : Bool) (cleared : Cleared T) (answer : Begin T) →
+        old.state ≡ state.Full ticket value expiry → now + old.buffer < expiry →
+        Makes T.is_clone old (Asked now waited cleared) mid → Makes T.is_clone mid (Began answer) new →
+        begun_in new.events ≡ begun_in old.events }
 {}

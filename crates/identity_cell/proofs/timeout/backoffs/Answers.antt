@@ -1,4 +1,4 @@
-use Rattle.std.proofs.Common.{◌≡◌, ◌+◌, ◌-◌, ◌*◌, ◌^◌, ◌<◌, ◌≤◌, min, ℕ, ap, ◌∙◌, sym, arith}
+use Rattle.std.proofs.Common.{◌≡◌, ◌+◌, ◌-◌, ◌*◌, ◌^◌, ◌≤◌, min, ℕ, ap, ◌∙◌, arith}
 use Rattle.identity_cell.specs.Timeout.{backoffs}
 use Rattle.identity_cell.proofs.Backoffs.{one_more, doubled, all_backoffs, small_product}
 use Rattle.identity_cell.proofs.timeout.backoffs.Goals as goal
