@@ -14,10 +14,10 @@ front-more f (x ∷ xs) zero d within = refl
 front-more f (x ∷ xs) (suc i) d within = ap (λ ys. f x ∷ ys) (front-more f xs i d (omega arith))
 
 -- one item more is changed where it is read and written
-pub front-stepped : {X : Type 0} → (f : X → X) (xs cs : List X) (i : ℕ) (x y : X) → i < length xs
-    → cs ≡ front_changed f i xs → x ≡ get_or cs i x → y ≡ f x → set cs i y ≡ front_changed f (i + 1) xs
-front-stepped f xs cs i x y within is read made =
-    ap (λ z. set cs i z) (made ∙ ap f read) ∙ subst (λ l. set l i (f (get_or l i x)) ≡ front_changed f (suc i) xs) (sym is) (front-more f xs i x within)
+pub front-stepped : {X : Type 0} → (f : X → X) (xs cs : List X) (i : ℕ) (d y : X) → i < length xs
+    → cs ≡ front_changed f i xs → y ≡ f (get_or cs i d) → set cs i y ≡ front_changed f (i + 1) xs
+front-stepped f xs cs i d y within is made =
+    ap (λ z. set cs i z) made ∙ subst (λ l. set l i (f (get_or l i d)) ≡ front_changed f (suc i) xs) (sym is) (front-more f xs i d within)
     ∙ ap (λ n. front_changed f n xs) (let next : suc i ≡ i + 1 = omega arith in next)
 
 -- all are changed once there is none behind the front

@@ -4,20 +4,30 @@ use Rattle.retry_parts.proofs.BucketStays.{in_force}
 use Rattle.retry_parts.proofs.decide.decide_standard.Goals as goal
 
 pub sums_in_force-requires : goal.sums_in_force-requires
-sums_in_force-requires g c = in_force _ _ _ _ _ _ _ _ _ _ _ c.in-Some.ensures.decides
+sums_in_force-requires g c =
+    let made = rw c.in-Some.is at c.in_ok-decision.ensures in
+    in_force _ _ _ _ _ _ _ _ _ _ _ (rw made at c.should_attempt_retry-decided.ensures.decides)
 
 pub returns-in-Some : goal.returns-in-Some
-returns-in-Some g c = (
-  _,
-  chained_more g.X.Outside.makes _ _ _ _ _ c.present-moment.ensures.calls c.word-word.ensures,
-  record {
-    now = c.present-moment.result;
-    word = c.word-word.result;
-    known = c.present-moment.ensures.known;
-    calls_are = refl;
-    decides = (c.in-Some.decision, rw (c.settings-settings.ensures, c.run_each-verdict.ensures) at c.in-Some.ensures.decides, c.paused.ensures, rw (c.sums_in_force.ensures, c.settings-settings.ensures, c.run_each-verdict.ensures) refl);
-  },
-)
+returns-in-Some g c =
+    let made = rw c.in-Some.is at c.in_ok-decision.ensures in
+    let decides = rw made at c.should_attempt_retry-decided.ensures.decides in
+    (
+      _,
+      chained_more g.X.Outside.makes _ _ _ _ _ c.present-moment.ensures.calls c.word-word.ensures,
+      record {
+        now = c.present-moment.result;
+        word = c.word-word.result;
+        known = c.present-moment.ensures.known;
+        calls_are = refl;
+        decides = (
+          c.in-Some.decision,
+          rw (c.settings-settings.ensures, c.run_each-verdict.ensures) at decides,
+          c.paused.ensures,
+          rw (c.sums_in_force.ensures, c.settings-settings.ensures, c.run_each-verdict.ensures) refl,
+        );
+      },
+    )
 
 pub returns-in-None : goal.returns-in-None
 returns-in-None g c =
