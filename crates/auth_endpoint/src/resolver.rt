@@ -36,7 +36,8 @@ impl StaticUriEndpointResolver {
 
     /// The endpoint: the URI, without headers and without a list of schemes.
     pub fn resolve_endpoint(&self) -> Result<Endpoint, OutOfMemory>
-        ensures { IfOk result (λ e. e ≡ record { url = self.now.endpoint; headers = []; schemes = None }) }
+        ensures { IfOk result
+            (λ e. e ≡ record { url = self.now.endpoint; headers = []; schemes = None }) }
     {
         Ok(Endpoint {
             url: self.endpoint.clone()?,
