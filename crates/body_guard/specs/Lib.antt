@@ -1,0 +1,4 @@
+pub mod Declaring
+pub mod Frames
+pub mod Length
+pub mod Texts
