@@ -4,10 +4,13 @@
 
 pub mod content_length;
 pub mod faults;
+pub mod grace;
 pub mod length;
 pub mod polled;
+mod rates;
 
 pub use content_length::{ContentLengthEnforcingBody, ContentLengthError};
 pub use faults::ThroughputBelowMinimum;
+pub use grace::{Grace, GraceAnswer};
 pub use length::{LengthFault, extract_content_length};
 pub use polled::{NoBody, Polled, PolledBody};
