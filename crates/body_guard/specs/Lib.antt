@@ -4,6 +4,7 @@ pub mod Events
 pub mod Frames
 pub mod Grace
 pub mod Length
+pub mod Protection
 pub mod Rates
 pub mod Texts
 pub mod Upload

@@ -1,5 +1,9 @@
 -- Uploads whose stall is seen while the response is waited for.
-use Rattle.std.specs.Prelude.{◌≡◌, ℕ, Bool, true, false, ◌||◌, List, [], ◌∷◌, ◌++◌, Option, None, Some, Result, Ok, Err}
+use Rattle.std.specs.Prelude.{◌≡◌, ℕ, Bool, true, false, ◌||◌, ◌&&◌, if◌then◌else◌, is_some, List, [], ◌∷◌, ◌++◌, Option, None, Some, Result, Ok, Err}
+use Rattle.smithy_context.specs.Settings.{loaded}
+use Rattle.smithy_context.specs.StandingLayers.{StandingLayers}
+use Rattle.smithy_context.specs.declared.setting.SettingKey.TheVariants as keys
+use Rattle.smithy_types.specs.declared.config.StalledStreamProtectionConfig.{StalledStreamProtectionConfig}
 use Rattle.smithy_types.specs.declared.fault.Fault.{Fault}
 use Rattle.smithy_types.specs.declared.fault.FaultKind.TheVariants.{Connector}
 use Rattle.smithy_types.specs.declared.kinds.ConnectorKind.TheVariants.{Timeout}
@@ -7,11 +11,13 @@ use Rattle.smithy_types.specs.declared.memory.OutOfMemory.{OutOfMemory}
 use Rattle.smithy_types.specs.declared.timers.TimersCall.{TimersCall}
 use Rattle.smithy_types.specs.declared.timers.TimersCall.TheVariants.{Now}
 use Rattle.stream_guard.specs.Logs.{Log, Keeps, SameSettings}
+use Rattle.stream_guard.specs.Options.{default_options}
 use Rattle.stream_guard.specs.Report.{Came, Looked, report_of}
 use Rattle.stream_guard.specs.declared.report.ThroughputReport.{ThroughputReport}
 use Rattle.body_guard.specs.Events.{with_event}
 use Rattle.body_guard.specs.Grace.{Grants}
 use Rattle.body_guard.specs.Rates.{upload_rate, violation}
+use Rattle.body_guard.specs.Protection.{standing_stall}
 use Rattle.body_guard.specs.declared.grace.GraceAnswer.{GraceAnswer}
 use Rattle.body_guard.specs.declared.grace.GraceAnswer.TheVariants.{InTime, NoSleep, Over}
 use Rattle.body_guard.specs.declared.polled.Polled.{Polled}
@@ -92,3 +98,20 @@ abbrev pub ChecksMaybe : Bool → MaybeUploadThroughputCheck → Log → Result 
 ChecksMaybe sleeps (Checked old) before answer (Checked new) after calls = Checks sleeps old before answer new after calls
 ChecksMaybe sleeps (Checked old) before answer Direct after calls = ⊥
 ChecksMaybe sleeps Direct before answer new after calls = (answer ≡ Ok None) × (new ≡ Direct) × (after ≡ before) × (calls ≡ [])
+
+-- whether the setting Upload stands
+abbrev pub has_upload : StandingLayers → Bool
+has_upload settings = is_some (loaded settings keys.Upload)
+
+abbrev pub is_enabled : StalledStreamProtectionConfig → Bool
+is_enabled stall = stall.upload || stall.download
+
+abbrev pub check_by : Bool → Option StalledStreamProtectionConfig → MaybeUploadThroughputCheck
+check_by upload None = Direct
+check_by upload (Some stall) =
+    if upload && is_enabled stall then Checked (record { grace = record { options = record default_options { grace_period = stall.grace_period }; sleep = None } })
+    else Direct
+
+-- the upload is looked at where Upload stands and a stream is protected
+abbrev pub standing_check : StandingLayers → MaybeUploadThroughputCheck
+standing_check settings = check_by (has_upload settings) (standing_stall settings)

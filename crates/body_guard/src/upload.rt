@@ -10,14 +10,21 @@ ghost use Rattle.body_guard.specs.Upload.{
   NotesEvent,
   PollsNoted,
   completes,
+  has_upload,
+  is_enabled,
   is_event,
+  standing_check,
   upload_answer,
 };
 
 use crate::events::push_event;
 use crate::rates::upload_rate;
+use crate::stalled_stream::standing_stall;
 use crate::{Grace, GraceAnswer, Polled, PolledBody};
-use smithy_types::{ConnectorKind, Fault, FaultKind, OutOfMemory, Text, Timers};
+use smithy_context::{SettingKey, Settings};
+use smithy_types::{
+    ConnectorKind, Fault, FaultKind, OutOfMemory, StalledStreamProtectionConfig, Text, Timers,
+};
 use std::alloc::Global;
 use stream_guard::{MinimumThroughputBodyOptions, ThroughputLogs};
 
@@ -190,6 +197,23 @@ pub enum MaybeUploadThroughputCheck {
 }
 
 impl MaybeUploadThroughputCheck {
+    /// A check where the setting Upload stands and the setting Stall protects a stream.
+    pub fn new(settings: &Settings) -> MaybeUploadThroughputCheck
+        ensures { result ≡ standing_check settings.now }
+    {
+        match standing_stall(settings) {
+            Some(stall) => {
+                if has_upload(settings) && is_enabled(stall) {
+                    let options = MinimumThroughputBodyOptions::from(stall);
+                    MaybeUploadThroughputCheck::Checked(UploadThroughputCheck::new(options))
+                } else {
+                    MaybeUploadThroughputCheck::Direct
+                }
+            }
+            None => MaybeUploadThroughputCheck::Direct,
+        }
+    }
+
     /// Looks at the upload, where it is looked at.
     pub fn check<T: Timers>(
         &mut self,
@@ -205,4 +229,18 @@ impl MaybeUploadThroughputCheck {
             MaybeUploadThroughputCheck::Direct => Ok(None),
         }
     }
+}
+
+// Whether the setting Upload stands.
+fn has_upload(settings: &Settings) -> bool
+    ensures { result ≡ has_upload settings.now }
+{
+    settings.load(&SettingKey::Upload).is_some()
+}
+
+// Whether a stream is protected.
+fn is_enabled(stall: StalledStreamProtectionConfig) -> bool
+    ensures { result ≡ is_enabled stall }
+{
+    stall.upload || stall.download
 }
