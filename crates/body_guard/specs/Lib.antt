@@ -1,0 +1,10 @@
+pub mod Declaring
+pub mod Download
+pub mod Events
+pub mod Frames
+pub mod Grace
+pub mod Length
+pub mod Protection
+pub mod Rates
+pub mod Texts
+pub mod Upload
