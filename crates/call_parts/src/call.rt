@@ -73,7 +73,8 @@ impl Reading {
     fn gather_data(&mut self, more: &Blob) -> Result<Option<Stop>, OutOfMemory>
         ensures { IfOk result (λ stop.
             (stop ≡ (if fits_in self.old.bytes more.now then None else Some Stop.TooLong))
-            × (self.new ≡ record self.old { bytes = gathered self.old.bytes (Polled.Data more.now) })) }
+            × (self.new ≡ record self.old {
+                bytes = gathered self.old.bytes (Polled.Data more.now) })) }
     {
         if self.bytes.len().saturating_add(more.len()) > LIMIT {
             return Ok(Some(Stop::TooLong));

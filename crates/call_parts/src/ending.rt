@@ -50,7 +50,8 @@ pub fn abandon<X: Outside>(
     ensures answer { result ≡ Answer.Abandoned }
     ensures sleeps { sleeps.new ≡ sleeps_without abandoned sleeps.old }
     ensures call { call.new ≡ call_without abandoned call.old }
-    ensures calls { Chained X.makes outside.old (abandoning abandoned sleeps.old call.old) outside.new }
+    ensures calls { Chained X.makes outside.old
+        (abandoning abandoned sleeps.old call.old) outside.new }
 {
     end_pending(abandoned, sleeps, call, outside);
     Answer::Abandoned
@@ -65,7 +66,8 @@ fn end_pending<X: Outside>(
 )
     ensures sleeps { sleeps.new ≡ sleeps_without abandoned sleeps.old }
     ensures call { call.new ≡ call_without abandoned call.old }
-    ensures calls { Chained X.makes outside.old (abandoning abandoned sleeps.old call.old) outside.new }
+    ensures calls { Chained X.makes outside.old
+        (abandoning abandoned sleeps.old call.old) outside.new }
 {
     match abandoned {
         Abandonable::Load | Abandonable::Choose | Abandonable::Endpoint => {}
