@@ -7,6 +7,7 @@ pub mod logs;
 pub mod options;
 pub mod report;
 pub mod throughput;
+mod window;
 
 pub use bin::{Bin, BinLabel};
 pub use logs::ThroughputLogs;

@@ -48,14 +48,24 @@ impl ThroughputLogs {
         if window < 10 {
             return Err(BuildError::WindowTooShort);
         }
-        Ok(ThroughputLogs {
+        Ok(ThroughputLogs::with_resolution(window / 10, now))
+    }
+
+    /// A log that starts now, with bins of so many ns.
+    pub(crate) fn with_resolution(resolution: u64, now: u64) -> ThroughputLogs
+        requires some { 0 < resolution }
+        requires fits { 10 * resolution < 2 ^ 64 }
+        ensures log { result ≡ empty_log now resolution }
+        ensures kept { Keeps result [] }
+    {
+        ThroughputLogs {
             start: now,
-            resolution: window / 10,
+            resolution,
             stream_complete: false,
             latest: 0,
             early: false,
             bins: [Bin::NO_POLLING; 10],
-        })
+        }
     }
 
     /// The stream was polled, and had nothing.

@@ -1,13 +1,12 @@
+//! When a stream counts as stalled.
 ghost use Rattle.std.specs.Prelude.{◌≡◌, None, Some, unwrap_or};
 
-use crate::Throughput;
+use crate::window::CheckWindow;
+use crate::{Throughput, ThroughputLogs};
 use smithy_types::StalledStreamProtectionConfig;
 
 /// How long a stream may stall where nothing else was said: 20 s, in ns.
 pub const DEFAULT_GRACE_PERIOD: u64 = 20_000_000_000;
-
-/// The window over which the throughput is taken where nothing else was said: 1 s, in ns.
-pub const DEFAULT_CHECK_WINDOW: u64 = 1_000_000_000;
 
 /// 500 ms, in ns.
 const CHECK_INTERVAL: u64 = 500_000_000;
@@ -16,14 +15,16 @@ const CHECK_INTERVAL: u64 = 500_000_000;
 #[derive(Clone, Drop)]
 pub struct MinimumThroughputBodyOptions {
     /// A stream that is slower stalls.
-    pub minimum_throughput: Throughput,
+    minimum_throughput: Throughput,
     /// How long a stream may stall, in ns.
-    pub grace_period: u64,
-    /// The window over which the throughput is taken, in ns.
-    pub check_window: u64,
+    grace_period: u64,
+    /// The window over which the throughput is taken.
+    check_window: CheckWindow,
 }
 
 impl MinimumThroughputBodyOptions {
+    ghost use Rattle.std.specs.Prelude.{◌/◌, []};
+    ghost use Rattle.stream_guard.specs.Logs.{Keeps, empty_log};
     ghost use Rattle.stream_guard.specs.Options.{unset};
 
     /// A builder with nothing set.
@@ -56,6 +57,14 @@ impl MinimumThroughputBodyOptions {
         self.minimum_throughput
     }
 
+    /// A log that starts now and judges by the window of these options, which ten bins fit into.
+    pub fn start_log(&self, now: u64) -> ThroughputLogs
+        ensures log { result ≡ empty_log now (self.now.check_window / 10) }
+        ensures kept { Keeps result [] }
+    {
+        self.check_window.start_log(now)
+    }
+
     /// Not used any more: 500 ms, in ns.
     pub fn check_interval(&self) -> u64
         ensures { result ≡ 500000000 }
@@ -73,7 +82,7 @@ impl Default for MinimumThroughputBodyOptions {
         MinimumThroughputBodyOptions {
             minimum_throughput: Throughput::new_bytes_per_second(1),
             grace_period: DEFAULT_GRACE_PERIOD,
-            check_window: DEFAULT_CHECK_WINDOW,
+            check_window: CheckWindow::one_second(),
         }
     }
 }
@@ -87,7 +96,7 @@ impl From<StalledStreamProtectionConfig> for MinimumThroughputBodyOptions {
         MinimumThroughputBodyOptions {
             minimum_throughput: Throughput::new_bytes_per_second(1),
             grace_period: config.grace_period,
-            check_window: DEFAULT_CHECK_WINDOW,
+            check_window: CheckWindow::one_second(),
         }
     }
 }
@@ -95,8 +104,8 @@ impl From<StalledStreamProtectionConfig> for MinimumThroughputBodyOptions {
 /// Makes options. A part that isn't set has its default.
 #[derive(Clone, Drop)]
 pub struct MinimumThroughputBodyOptionsBuilder {
-    pub minimum_throughput: Option<Throughput>,
-    pub grace_period: Option<u64>,
+    minimum_throughput: Option<Throughput>,
+    grace_period: Option<u64>,
 }
 
 impl Default for MinimumThroughputBodyOptionsBuilder {
@@ -192,7 +201,7 @@ impl MinimumThroughputBodyOptionsBuilder {
                 .minimum_throughput
                 .unwrap_or(Throughput::new_bytes_per_second(1)),
             grace_period: self.grace_period.unwrap_or(DEFAULT_GRACE_PERIOD),
-            check_window: DEFAULT_CHECK_WINDOW,
+            check_window: CheckWindow::one_second(),
         }
     }
 }
@@ -200,6 +209,7 @@ impl MinimumThroughputBodyOptionsBuilder {
 #[cfg(test)]
 mod tests {
     use super::*;
+    use crate::ThroughputReport;
 
     #[test]
     fn a_part_that_is_not_set_has_its_default(rt: HostRuntime) {
@@ -217,17 +227,17 @@ mod tests {
             .set_minimum_throughput(Some(rate))
             .set_check_interval(Some(1));
         let built = builder.build();
-        assert_eq!(rt; built.grace_period, 20_000_000_000);
-        assert_eq!(rt; built.minimum_throughput, rate);
-        assert_eq!(rt; built.check_window, 1_000_000_000);
+        assert_eq!(rt; built.grace_period(), 20_000_000_000);
+        assert_eq!(rt; built.minimum_throughput(), rate);
         let config = StalledStreamProtectionConfig {
             upload: true,
             download: true,
             grace_period: 5,
         };
         let from = MinimumThroughputBodyOptions::from(config);
-        assert_eq!(rt; from.grace_period, 5);
-        let default = MinimumThroughputBodyOptions::default();
-        assert_eq!(rt; default.check_window, 1_000_000_000);
+        assert_eq!(rt; from.grace_period(), 5);
+        let mut log = MinimumThroughputBodyOptions::default().start_log(0);
+        assert_eq!(rt; log.report(899_999_999), ThroughputReport::Incomplete);
+        assert_eq!(rt; log.report(900_000_000), ThroughputReport::NoPolling);
     }
 }

@@ -1,0 +1,6 @@
+pub mod Declaring
+pub mod Frames
+pub mod Grace
+pub mod Length
+pub mod Rates
+pub mod Texts
