@@ -1,6 +1,9 @@
 pub mod Declaring
+pub mod Download
+pub mod Events
 pub mod Frames
 pub mod Grace
 pub mod Length
 pub mod Rates
 pub mod Texts
+pub mod Upload

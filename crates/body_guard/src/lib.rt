@@ -3,14 +3,21 @@
 #![tactic(auto)]
 
 pub mod content_length;
+pub mod download;
+mod events;
 pub mod faults;
 pub mod grace;
 pub mod length;
 pub mod polled;
 mod rates;
+pub mod upload;
 
 pub use content_length::{ContentLengthEnforcingBody, ContentLengthError};
+pub use download::{MinimumThroughputBody, MinimumThroughputDownloadBody};
 pub use faults::ThroughputBelowMinimum;
 pub use grace::{Grace, GraceAnswer};
 pub use length::{LengthFault, extract_content_length};
 pub use polled::{NoBody, Polled, PolledBody};
+pub use upload::{
+    MaybeUploadThroughputCheck, ThroughputReadingBody, UploadThroughput, UploadThroughputCheck,
+};
