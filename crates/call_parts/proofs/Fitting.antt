@@ -1,0 +1,84 @@
+-- Each answer fits its question.
+use Rattle.std.proofs.Common.{◌≡◌, ℕ, Bool, true, List, Option, None, Some, refl}
+use Rattle.smithy_context.specs.StandingLayers.{StandingLayers}
+use Rattle.smithy_types.specs.declared.http.Body.{Body}
+use Rattle.smithy_types.specs.declared.http.Body.TheVariants as body
+use Rattle.smithy_types.specs.declared.http.HttpRequest.{HttpRequest}
+use Rattle.outside.specs.Calls.{OutsideCall}
+use Rattle.outside.specs.declared.answers.Sent.{Sent}
+use Rattle.outside.specs.declared.answers.Sent.TheVariants as sents
+use Rattle.run_grammar.specs.Fits.{fits}
+use Rattle.run_grammar.specs.declared.answer.Answer.{Answer}
+use Rattle.run_grammar.specs.declared.answer.Answer.TheVariants as answers
+use Rattle.run_grammar.specs.declared.kind.Abandonable.{Abandonable}
+use Rattle.run_grammar.specs.declared.kind.Kind.TheVariants as kinds
+use Rattle.run_grammar.specs.declared.kind.Role.{Role}
+use Rattle.call_parts.specs.declared.call.Call.{Call}
+use Rattle.call_parts.specs.declared.call.Call.TheVariants.{Idle, Sending, Reading, Left}
+use Rattle.call_parts.specs.declared.call.Reading.{Reading as OpenBody}
+use Rattle.call_parts.specs.declared.call.Stop.{Stop}
+use Rattle.call_parts.specs.declared.call.Stop.TheVariants as stops
+use Rattle.call_parts.specs.declared.sleeping.Sleeps.{Sleeps}
+use Rattle.call_parts.specs.Loading.{loaded, loaded_body}
+use Rattle.call_parts.specs.Reading.{ClosesAs, Reads}
+use Rattle.call_parts.specs.Sleeping.{Starts, Waits}
+use Rattle.call_parts.specs.Transmitting.{Transmits, sent_answer}
+
+pub starts_fit : (has : Bool) (role : Role) (nanos : Option ℕ) (old : Sleeps) (a : Answer) (new : Sleeps) (calls : List OutsideCall) →
+    Starts has role nanos old a new calls → fits (kinds.Start role) a ≡ true
+unfolding fits
+starts_fit has role nanos old answers.Absent new calls h = refl
+starts_fit has role nanos old answers.Started new calls h = refl
+starts_fit has role nanos old _ new calls h = absurd h
+
+pub waits_fit : (role : Role) (sleep : Option ℕ) (a : Answer) (calls : List OutsideCall) → Waits sleep a calls → fits (kinds.Wait role) a ≡ true
+unfolding fits
+waits_fit role None answers.Ready calls h = refl
+waits_fit role (Some sleep) answers.Ready calls h = refl
+waits_fit role (Some sleep) answers.Pending calls h = refl
+waits_fit role _ _ calls h = absurd h
+
+body_fits : (b : Body) → fits kinds.Load (loaded_body b) ≡ true
+unfolding fits
+body_fits (body.Bytes bytes) = refl
+body_fits (body.Once bytes) = refl
+body_fits body.Taken = refl
+
+pub loaded_fits : (request : Option HttpRequest) → fits kinds.Load (loaded request) ≡ true
+unfolding fits
+loaded_fits None = refl
+loaded_fits (Some request) = body_fits request.body
+
+sent_fits : (sent : Sent) → fits kinds.Transmit (sent_answer sent) ≡ true
+unfolding fits
+sent_fits sents.Pending = refl
+sent_fits (sents.Response response) = refl
+sent_fits (sents.Failed kind text) = refl
+
+pub transmits_fit : (settings : StandingLayers) (request : Option HttpRequest) (old : Call) (a : Answer) (new : Call) (calls : List OutsideCall) →
+    Transmits settings request old a new calls → fits kinds.Transmit a ≡ true
+unfolding fits
+transmits_fit settings None old a new calls h = rw h.0 refl
+transmits_fit settings (Some request) old a new calls h = rw h.answer_is (sent_fits h.sent)
+
+closes_fit : (stop : Stop) (end : OpenBody) (a : Answer) (new : Call) → ClosesAs stop end a new → fits kinds.Body a ≡ true
+unfolding fits
+closes_fit stops.Pending end a new h = rw h.0 refl
+closes_fit stops.End end a new h = rw h.0 refl
+closes_fit (stops.Failed text) end a new h = rw h.0 refl
+closes_fit stops.TooLong end a new h = rw h.0 refl
+
+pub reads_fit : (old : Call) (a : Answer) (new : Call) (calls : List OutsideCall) → Reads old a new calls → fits kinds.Body a ≡ true
+unfolding fits
+reads_fit (Reading r) a new calls h = closes_fit h.stop h.end a new h.closes
+reads_fit Idle a new calls h = rw h.0 refl
+reads_fit Sending a new calls h = rw h.0 refl
+reads_fit Left a new calls h = rw h.0 refl
+
+pub abandoned_fits : (what : Abandonable) → fits (kinds.Abandon what) answers.Abandoned ≡ true
+unfolding fits
+abandoned_fits what = refl
+
+pub parked_fits : fits kinds.Park answers.Parked ≡ true
+unfolding fits
+parked_fits = refl

@@ -1,0 +1,4 @@
+pub mod Fitting
+pub mod ReadLemmas
+pub mod SendLemmas
+pub mod SleepLemmas
