@@ -1,5 +1,5 @@
 -- What the end of a run answers.
-use Rattle.std.proofs.Common.{ℕ, true, false, Result, Ok, Err, Some, List, [], ◌++◌, ◌≡◌, sym, ap, subst, inl, append-nil}
+use Rattle.std.proofs.Common.{ℕ, true, false, Result, Ok, Err, Some, List, [], ◌≡◌, sym, subst, inl, append-nil}
 use Rattle.smithy_context.specs.declared.context.InterceptorContext.{InterceptorContext}
 use Rattle.smithy_context.specs.Failures.{is_failure}
 use Rattle.smithy_types.specs.declared.kinds.StopPoint.{StopPoint}

@@ -1,5 +1,5 @@
 -- A list that is kept the last one first.
-use Rattle.std.proofs.Common.{ℕ, ◌+◌, ◌-◌, ◌<◌, true, false, Option, None, Some, IsSome, List, [], ◌∷◌, ◌++◌, length, reverse, get_or, slice_get, ◌≡◌, ◌↔◌, refl, sym, ap, ◌∙◌, subst, arith, append-nil, length-append}
+use Rattle.std.proofs.Common.{◌+◌, ◌-◌, ◌<◌, true, false, Option, None, Some, IsSome, List, [], ◌∷◌, ◌++◌, length, reverse, get_or, slice_get, ◌≡◌, ◌↔◌, refl, sym, ap, ◌∙◌, subst, arith, append-nil, length-append}
 use Rattle.std.specs.Prelude.{option_to_list}
 use Rattle.std.proofs.lemmas.List.{reverse-append, reverse-reverse}
 use Rattle.std.proofs.Math.Seq.{get_or-append_seam}

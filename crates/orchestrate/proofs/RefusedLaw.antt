@@ -1,17 +1,11 @@
 -- A configuration that fails refuses the operation.
-use Rattle.std.proofs.Common.{true, false, ℕ, Some, Option, Result, Err, List, [], ◌∷◌, ◌++◌, ◌≡◌, refl, sym, ap, ◌∙◌, subst}
-use Rattle.smithy_context.specs.declared.context.InterceptorContext.{InterceptorContext}
+use Rattle.std.proofs.Common.{Result, Err, [], ◌∷◌, ◌++◌, ◌≡◌, sym, ap, ◌∙◌, subst}
 use Rattle.smithy_types.specs.declared.fault.Fault.{Fault}
 use Rattle.smithy_types.specs.declared.fault.FaultKind.TheVariants as faults
-use Rattle.smithy_types.specs.declared.fault.Outcome.{Outcome}
-use Rattle.smithy_types.specs.declared.fault.Outcome.TheVariants as outcomes
 use Rattle.smithy_types.specs.declared.fault.SdkError.{SdkError}
 use Rattle.smithy_types.specs.declared.fault.SdkError.TheVariants.{ConstructionFailure}
-use Rattle.smithy_types.specs.declared.kinds.Phase.{Phase}
-use Rattle.smithy_types.specs.declared.kinds.Phase.TheVariants as phases
 use Rattle.smithy_types.specs.declared.payload.Payload.{Payload}
 use Rattle.smithy_context.specs.Failures.{sdk_error_of}
-use Rattle.run_grammar.specs.declared.answer.Entry.{Entry}
 use Rattle.run_grammar.specs.Standing.{State, standing, start}
 use Rattle.run_grammar.specs.Refusals.{FailedUnmade}
 use Rattle.run_grammar.proofs.ConfigureLaw.{configurations_end}

@@ -7,6 +7,7 @@ pub mod Answered
 pub mod Growth
 pub mod Fresh
 pub mod Finish
+pub mod InvocationValue
 pub mod ScriptValue
 pub mod Script
 pub mod Handing

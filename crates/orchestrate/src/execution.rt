@@ -47,7 +47,8 @@ pub fn invoke<W: World>(
     fuel: u64,
 ) -> Result<Payload, InvokeError<Payload>>
     ensures answered { PayloadAnswered input fuel result (W.calls world.old) (W.calls world.new) }
-    ensures related { HadMemory result → HandedOn W.relates world.old world.new (W.calls world.old) (W.calls world.new) }
+    ensures related { HadMemory result →
+        HandedOn W.relates world.old world.new (W.calls world.old) (W.calls world.new) }
 {
     match run(alloc, world, input, StopPoint::None, fuel)? {
         Some(standing) => outcome(standing.context),
@@ -67,8 +68,10 @@ pub fn invoke_with_stop_point<W: World>(
     stop: StopPoint,
     fuel: u64,
 ) -> Result<InterceptorContext, InvokeError<Payload>>
-    ensures answered { ContextAnswered input stop fuel result (W.calls world.old) (W.calls world.new) }
-    ensures related { HadMemory result → HandedOn W.relates world.old world.new (W.calls world.old) (W.calls world.new) }
+    ensures answered { ContextAnswered input stop fuel result (W.calls world.old)
+        (W.calls world.new) }
+    ensures related { HadMemory result →
+        HandedOn W.relates world.old world.new (W.calls world.old) (W.calls world.new) }
 {
     match run(alloc, world, input, stop, fuel)? {
         Some(standing) => stopped(standing.context),
@@ -76,8 +79,8 @@ pub fn invoke_with_stop_point<W: World>(
     }
 }
 
-/// Drives a run until it is whole, or `fuel` questions were asked. Some is what stands at the end.
-pub fn run<W: World>(
+// Drives a run until it is whole, or `fuel` questions were asked. Some is what stands at the end.
+fn run<W: World>(
     alloc: Global,
     world: &mut W,
     input: Payload,
@@ -86,17 +89,18 @@ pub fn run<W: World>(
 ) -> Result<Option<Standing>, OutOfMemory>
     ensures ran { IfOk result (λ r. Ran input stop fuel r (W.calls world.old) (W.calls world.new)) }
     ensures lost { OnErr result (RunLost input stop fuel (W.calls world.old) (W.calls world.new)) }
-    ensures related { IfOk result (λ r. HandedOn W.relates world.old world.new (W.calls world.old) (W.calls world.new)) }
+    ensures related { IfOk result (λ r. HandedOn W.relates world.old world.new (W.calls world.old)
+        (W.calls world.new)) }
 {
     let mut invocation = Invocation::start(input, stop);
     for _ in 0..fuel {
         match invocation.drive(alloc, world)? {
-            Step::Ended => return Ok(Some(invocation.standing)),
+            Step::Ended => return Ok(Some(invocation.into_standing())),
             Step::Asked => {}
         }
     }
-    match invocation.stage.place.point {
-        None => Ok(Some(invocation.standing)),
+    match invocation.point() {
+        None => Ok(Some(invocation.into_standing())),
         Some(_) => Ok(None),
     }
 }

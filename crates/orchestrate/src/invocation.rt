@@ -12,15 +12,29 @@ use crate::world::World;
 use run_grammar::{Standing, StopPoint};
 use smithy_types::{OutOfMemory, Payload};
 use std::alloc::Global;
+use std::marker::Model;
 
 /// A run of an operation: what stands in it, and where it stands. It never sees the log.
 #[derive(Drop)]
 pub struct Invocation {
-    pub stop: StopPoint,
-    pub standing: Standing,
-    pub stage: Stage,
-    /// Whether memory ran out in it. It then asks nothing more.
-    pub lost: bool,
+    stop: StopPoint,
+    standing: Standing,
+    stage: Stage,
+    // Whether memory ran out in it. It then asks nothing more.
+    lost: bool,
+}
+
+impl Model for Invocation {
+    ghost use Rattle.orchestrate.specs.InvocationValue.{InvocationValue};
+
+    ghost Value = { InvocationValue };
+
+    ghost view = { λ v. record {
+      stop = v.stop;
+      standing = v.standing;
+      stage = v.stage;
+      lost = v.lost;
+    } };
 }
 
 /// What a step of a run came to.
@@ -58,10 +72,14 @@ impl Invocation {
     /// Asks the world one question, or none where the run is whole. Where there is no memory this
     /// answers so from then on, and asks nothing.
     pub fn drive<W: World>(&mut self, alloc: Global, world: &mut W) -> Result<Step, OutOfMemory>
-        ensures drove { IfOk result (λ r. Drove r self.old self.new (W.calls world.old) (W.calls world.new)) }
-        ensures lost { OnErr result (Lost self.old self.new (W.calls world.old) (W.calls world.new)) }
-        ensures related { IfOk result (λ r. HandedOn W.relates world.old world.new (W.calls world.old) (W.calls world.new)) }
-        ensures stays_lost { self.old.lost ≡ true → IsErr result × (W.calls world.new ≡ W.calls world.old) }
+        ensures drove { IfOk result (λ r. Drove r self.old self.new (W.calls world.old)
+            (W.calls world.new)) }
+        ensures lost { OnErr result (Lost self.old self.new (W.calls world.old)
+            (W.calls world.new)) }
+        ensures related { IfOk result (λ r. HandedOn W.relates world.old world.new
+            (W.calls world.old) (W.calls world.new)) }
+        ensures stays_lost { self.old.lost ≡ true →
+            IsErr result × (W.calls world.new ≡ W.calls world.old) }
     {
         if self.lost {
             return Err(OutOfMemory);
@@ -75,6 +93,20 @@ impl Invocation {
         Ok(Step::Asked)
     }
 
+    /// The point whose question is next. Without one the run is whole.
+    pub(crate) fn point(&self) -> Option<Point>
+        ensures { result ≡ self.now.stage.place.point }
+    {
+        self.stage.place.point
+    }
+
+    /// What stands in the run.
+    pub(crate) fn into_standing(self) -> Standing
+        ensures { result ≡ self.standing }
+    {
+        self.standing
+    }
+
     // Asks the question of the point, and takes the answer in.
     fn ask<W: World>(
         &mut self,
@@ -82,9 +114,12 @@ impl Invocation {
         world: &mut W,
         point: Point,
     ) -> Result<(), OutOfMemory>
-        ensures ok { OnOk result (AskedOnce self.old self.new point (W.calls world.old) (W.calls world.new)) }
-        ensures err { OnErr result (AskedInVain self.old self.new point (W.calls world.old) (W.calls world.new)) }
-        ensures related { OnOk result (HandedOn W.relates world.old world.new (W.calls world.old) (W.calls world.new)) }
+        ensures ok { OnOk result (AskedOnce self.old self.new point (W.calls world.old)
+            (W.calls world.new)) }
+        ensures err { OnErr result (AskedInVain self.old self.new point (W.calls world.old)
+            (W.calls world.new)) }
+        ensures related { OnOk result (HandedOn W.relates world.old world.new
+            (W.calls world.old) (W.calls world.new)) }
     {
         let kind = asks_at(point, self.stage.waiting);
         let question = self.standing.question(kind)?;

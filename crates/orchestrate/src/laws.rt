@@ -10,7 +10,8 @@ ghost use Rattle.run_grammar.specs.Standing.{State, standing, start};
 ghost use Rattle.run_grammar.specs.Laws.{Begins, IsWhole};
 ghost use Rattle.orchestrate.specs.declared.execution.InvokeError.{InvokeError};
 ghost use Rattle.orchestrate.specs.declared.invocation.Invocation.{Invocation};
-ghost use Rattle.orchestrate.specs.Answered.{ContextAnswered, InputAnswered, OperationAnswered, PayloadAnswered};
+ghost use Rattle.orchestrate.specs.Answered.{ContextAnswered, InputAnswered};
+ghost use Rattle.orchestrate.specs.Answered.{OperationAnswered, PayloadAnswered};
 ghost use Rattle.orchestrate.specs.Finish.{answer_of};
 ghost use Rattle.orchestrate.specs.Handing.{HadMemory};
 ghost use Rattle.orchestrate.specs.Refused.{ConfigurationsAreRefused};
@@ -27,20 +28,35 @@ pub fn standing_begins_a_run()
 /// Want of memory aside, the answer of a run is determined by the calls that were made and by
 /// `fuel`, of one to its end and of one up to its stop point.
 pub fn answers_are_determined()
-    ensures contexts { (p : Payload) (stop : StopPoint) (fuel : ℕ) (before log : List Entry) (a b : Result InterceptorContext (InvokeError Payload)) → HadMemory a → HadMemory b → ContextAnswered p stop fuel a before log → ContextAnswered p stop fuel b before log → a ≡ b }
-    ensures payloads { (p : Payload) (fuel : ℕ) (before log : List Entry) (a b : Result Payload (InvokeError Payload)) → HadMemory a → HadMemory b → PayloadAnswered p fuel a before log → PayloadAnswered p fuel b before log → a ≡ b }
+    ensures contexts { (p : Payload) (stop : StopPoint) (fuel : ℕ) (before log : List Entry)
+        (a b : Result InterceptorContext (InvokeError Payload)) → HadMemory a → HadMemory b →
+        ContextAnswered p stop fuel a before log → ContextAnswered p stop fuel b before log →
+        a ≡ b }
+    ensures payloads { (p : Payload) (fuel : ℕ) (before log : List Entry)
+        (a b : Result Payload (InvokeError Payload)) → HadMemory a → HadMemory b →
+        PayloadAnswered p fuel a before log → PayloadAnswered p fuel b before log → a ≡ b }
 {}
 
 /// Want of memory aside, the answer of an operation is determined by the calls that it made and by
 /// `fuel`, whatever its input was.
 pub fn an_operations_answers_are_determined<I: Wire, O: Wire, E: Wire>()
-    ensures { (i j : I) (fuel : ℕ) (before log : List Entry) (a b : Result O (InvokeError E)) → HadMemory a → HadMemory b → InputAnswered I.accepts I.reads_as O.accepts O.reads_as E.accepts E.reads_as i fuel a before log → InputAnswered I.accepts I.reads_as O.accepts O.reads_as E.accepts E.reads_as j fuel b before log → a ≡ b }
+    ensures { (i j : I) (fuel : ℕ) (before log : List Entry) (a b : Result O (InvokeError E)) →
+        HadMemory a → HadMemory b →
+        InputAnswered I.accepts I.reads_as O.accepts O.reads_as E.accepts E.reads_as i fuel a
+        before log →
+        InputAnswered I.accepts I.reads_as O.accepts O.reads_as E.accepts E.reads_as j fuel b
+        before log → a ≡ b }
 {}
 
 /// Want of memory aside, an operation whose calls are a whole run with an output that its type
 /// accepts answers that output.
 pub fn acceptable_outputs_are_answered<O: Wire, E: Wire>()
-    ensures { (p o : Payload) (fuel : ℕ) (before l : List Entry) (r : Result O (InvokeError E)) → HadMemory r → OperationAnswered O.accepts O.reads_as E.accepts E.reads_as p fuel r before (before ++ l) → IsWhole stops.None (start p) l → answer_of (standing (start p) l).context.context ≡ Ok o → O.accepts o ≡ true → (x : O) × (r ≡ Ok x) × O.reads_as o x }
+    ensures { (p o : Payload) (fuel : ℕ) (before l : List Entry) (r : Result O (InvokeError E)) →
+        HadMemory r →
+        OperationAnswered O.accepts O.reads_as E.accepts E.reads_as p fuel r before (before ++ l) →
+        IsWhole stops.None (start p) l →
+        answer_of (standing (start p) l).context.context ≡ Ok o → O.accepts o ≡ true →
+        (x : O) × (r ≡ Ok x) × O.reads_as o x }
 {}
 
 /// A list of answers spells at most one run: whole within `fuel` calls, or of `fuel` calls that

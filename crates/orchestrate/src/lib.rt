@@ -1,17 +1,17 @@
 //! The engine: runs an operation by asking a world one question at a time.
 #![tactic(auto)]
 
-pub mod execution;
-pub mod finish;
-pub mod invocation;
+mod execution;
+mod finish;
+mod invocation;
 pub mod laws;
-pub mod operation;
-pub mod point;
-pub mod reply;
-pub mod script;
-pub mod stage;
-pub mod way;
-pub mod world;
+mod operation;
+mod point;
+mod reply;
+mod script;
+mod stage;
+mod way;
+mod world;
 
 pub use execution::{InvokeError, invoke, invoke_with_stop_point};
 pub use invocation::{Invocation, Step};

@@ -54,8 +54,10 @@ impl<I: Wire + Drop, O: Wire + Drop, E: Wire + Drop> Operation<I, O, E> {
         fuel: u64,
     ) -> Result<O, InvokeError<E>>
         ensures grown { GrewByAtMost fuel (W.calls world.old) (W.calls world.new) }
-        ensures answered { InputAnswered I.accepts I.reads_as O.accepts O.reads_as E.accepts E.reads_as input fuel result (W.calls world.old) (W.calls world.new) }
-        ensures related { HadMemory result → HandedOn W.relates world.old world.new (W.calls world.old) (W.calls world.new) }
+        ensures answered { InputAnswered I.accepts I.reads_as O.accepts O.reads_as E.accepts
+            E.reads_as input fuel result (W.calls world.old) (W.calls world.new) }
+        ensures related { HadMemory result →
+            HandedOn W.relates world.old world.new (W.calls world.old) (W.calls world.new) }
     {
         let payload = input.to_payload(alloc)?;
         let answer = invoke(

@@ -108,7 +108,8 @@ pub fn moved(
     reply: Reply,
     standing: &Standing,
 ) -> Stage
-    ensures { (s : State) (e : Entry) → s.context ≡ standing.now → Tells s reply → pending e ≡ reply.pending → result ≡ moved_at stop armed point waiting s e }
+    ensures { (s : State) (e : Entry) → s.context ≡ standing.now → Tells s reply →
+        pending e ≡ reply.pending → result ≡ moved_at stop armed point waiting s e }
 {
     match waiting {
         Waiting::NotWaiting => {
@@ -137,7 +138,9 @@ pub fn moved(
 }
 
 fn after_attempt_wait(armed: Armed, reply: Reply) -> Waiting
-    ensures { result ≡ (if reply.pending then (if armed.operation then Waiting.ForOperation else Waiting.ForPark) else Waiting.CutByAttempt) }
+    ensures { result ≡ (if reply.pending
+        then (if armed.operation then Waiting.ForOperation else Waiting.ForPark)
+        else Waiting.CutByAttempt) }
 {
     if !reply.pending {
         Waiting::CutByAttempt
@@ -150,7 +153,9 @@ fn after_attempt_wait(armed: Armed, reply: Reply) -> Waiting
 
 // An operation's cut inside an attempt is followed by that attempt's completion hooks.
 fn after_operation_cut(armed: Armed, point: Point) -> Place
-    ensures { result ≡ (if is_in_attempt point then here armed Point.AtCutModifyBeforeAttemptCompletion else here armed Point.AtModifyBeforeCompletion) }
+    ensures { result ≡ (if is_in_attempt point
+        then here armed Point.AtCutModifyBeforeAttemptCompletion
+        else here armed Point.AtModifyBeforeCompletion) }
 {
     if is_in_attempt(point) {
         here(armed, Point::AtCutModifyBeforeAttemptCompletion)

@@ -2,7 +2,8 @@
 ghost use Rattle.std.specs.Prelude.{◌≡◌, cond};
 ghost use Rattle.run_grammar.specs.Standing.{State};
 ghost use Rattle.run_grammar.specs.Tests.{failed};
-ghost use Rattle.orchestrate.specs.Points.{here, ended, settling_at, finishing_at, begin_turn, go_again, after_opened, next_point};
+ghost use Rattle.orchestrate.specs.Points.{here, ended, settling_at, finishing_at, begin_turn};
+ghost use Rattle.orchestrate.specs.Points.{go_again, after_opened, next_point};
 ghost use Rattle.orchestrate.specs.Replies.{Tells};
 
 use crate::point::Point;
@@ -19,7 +20,8 @@ pub fn next_point(
     reply: Reply,
     standing: &Standing,
 ) -> Place
-    ensures { (s : State) → s.context ≡ standing.now → Tells s reply → result ≡ next_point stop armed point s }
+    ensures { (s : State) → s.context ≡ standing.now → Tells s reply →
+        result ≡ next_point stop armed point s }
 {
     match point {
         Point::AtConfigureClient => or_end(armed, reply, Point::AtHookClient),
@@ -84,7 +86,8 @@ pub fn next_point(
 
 #[tactic(auto, unfolding(run_grammar::specs::Tests::failure_stands, run_grammar::specs::Tests::timeout_stands))]
 fn after_configuration(armed: Armed, reply: Reply, standing: &Standing) -> Place
-    ensures { (stop : StopPoint) (s : State) → s.context ≡ standing.now → Tells s reply → result ≡ next_point stop armed Point.AtConfigureFinal s }
+    ensures { (stop : StopPoint) (s : State) → s.context ≡ standing.now → Tells s reply →
+        result ≡ next_point stop armed Point.AtConfigureFinal s }
 {
     if reply.failed {
         return Place { armed, point: None };
@@ -110,7 +113,8 @@ fn after_configuration(armed: Armed, reply: Reply, standing: &Standing) -> Place
 }
 
 fn after_initial(armed: Armed, reply: Reply, standing: &Standing) -> Place
-    ensures { (stop : StopPoint) (s : State) → s.context ≡ standing.now → Tells s reply → result ≡ next_point stop armed Point.AtInitial s }
+    ensures { (stop : StopPoint) (s : State) → s.context ≡ standing.now → Tells s reply →
+        result ≡ next_point stop armed Point.AtInitial s }
 {
     if reply.delayed {
         here(armed, Point::AtStartSend)
@@ -132,7 +136,8 @@ fn after_opening(stop: StopPoint, armed: Armed, reply: Reply) -> Place
 
 #[tactic(auto, unfolding(run_grammar::specs::Tests::checkpoint_stands))]
 fn after_decision(armed: Armed, reply: Reply, standing: &Standing) -> Place
-    ensures { (stop : StopPoint) (s : State) → s.context ≡ standing.now → Tells s reply → result ≡ next_point stop armed Point.AtDecide s }
+    ensures { (stop : StopPoint) (s : State) → s.context ≡ standing.now → Tells s reply →
+        result ≡ next_point stop armed Point.AtDecide s }
 {
     if reply.again {
         if standing.context.checkpoint.is_some() {
@@ -161,7 +166,8 @@ pub fn here(armed: Armed, point: Point) -> Place
 
 // The next point of a configuration, which a failure ends.
 fn or_end(armed: Armed, reply: Reply, next: Point) -> Place
-    ensures { (s : State) → Tells s reply → result ≡ cond (failed s) (ended armed) (here armed next) }
+    ensures { (s : State) → Tells s reply →
+        result ≡ cond (failed s) (ended armed) (here armed next) }
 {
     if reply.failed {
         Place { armed, point: None }
@@ -172,7 +178,8 @@ fn or_end(armed: Armed, reply: Reply, next: Point) -> Place
 
 // The next point of a halted sequence, whose failure leads to the finalizers.
 fn or_finish(armed: Armed, reply: Reply, next: Point) -> Place
-    ensures { (s : State) → Tells s reply → result ≡ cond (failed s) (finishing_at armed) (here armed next) }
+    ensures { (s : State) → Tells s reply →
+        result ≡ cond (failed s) (finishing_at armed) (here armed next) }
 {
     if reply.failed {
         here(armed, Point::AtModifyBeforeCompletion)
@@ -183,7 +190,8 @@ fn or_finish(armed: Armed, reply: Reply, next: Point) -> Place
 
 // The next point of a halted sequence, whose failure leads to the attempt's completion.
 fn or_settle(armed: Armed, reply: Reply, next: Point) -> Place
-    ensures { (s : State) → Tells s reply → result ≡ cond (failed s) (settling_at armed) (here armed next) }
+    ensures { (s : State) → Tells s reply →
+        result ≡ cond (failed s) (settling_at armed) (here armed next) }
 {
     if reply.failed {
         here(armed, Point::AtModifyBeforeAttemptCompletion)
@@ -222,7 +230,8 @@ fn go_again(armed: Armed, standing: &Standing) -> Place
 }
 
 fn after_start_operation(reply: Reply) -> Place
-    ensures { (armed : Armed) (stop : StopPoint) (s : State) → Tells s reply → result ≡ next_point stop armed Point.AtStartOperation s }
+    ensures { (armed : Armed) (stop : StopPoint) (s : State) → Tells s reply →
+        result ≡ next_point stop armed Point.AtStartOperation s }
 {
     here(
         Armed {
@@ -235,7 +244,8 @@ fn after_start_operation(reply: Reply) -> Place
 
 #[tactic(auto, unfolding(run_grammar::specs::Tests::load_body))]
 fn after_serialize(armed: Armed, reply: Reply, standing: &Standing) -> Place
-    ensures { (stop : StopPoint) (s : State) → s.context ≡ standing.now → Tells s reply → result ≡ next_point stop armed Point.AtSerialize s }
+    ensures { (stop : StopPoint) (s : State) → s.context ≡ standing.now → Tells s reply →
+        result ≡ next_point stop armed Point.AtSerialize s }
 {
     if standing.loads_body() {
         or_finish(armed, reply, Point::AtLoad)
@@ -245,7 +255,8 @@ fn after_serialize(armed: Armed, reply: Reply, standing: &Standing) -> Place
 }
 
 fn after_start_send(armed: Armed, reply: Reply) -> Place
-    ensures { (stop : StopPoint) (s : State) → Tells s reply → result ≡ next_point stop armed Point.AtStartSend s }
+    ensures { (stop : StopPoint) (s : State) → Tells s reply →
+        result ≡ next_point stop armed Point.AtStartSend s }
 {
     if reply.has_started(Role::Send) {
         here(armed, Point::AtWaitSend)
@@ -255,7 +266,8 @@ fn after_start_send(armed: Armed, reply: Reply) -> Place
 }
 
 fn after_start_attempt(armed: Armed, reply: Reply) -> Place
-    ensures { (stop : StopPoint) (s : State) → Tells s reply → result ≡ next_point stop armed Point.AtStartAttempt s }
+    ensures { (stop : StopPoint) (s : State) → Tells s reply →
+        result ≡ next_point stop armed Point.AtStartAttempt s }
 {
     here(
         Armed {
@@ -268,7 +280,8 @@ fn after_start_attempt(armed: Armed, reply: Reply) -> Place
 
 #[tactic(auto, unfolding(run_grammar::specs::Tests::endpoint_stands))]
 fn after_choose(armed: Armed, reply: Reply, standing: &Standing) -> Place
-    ensures { (stop : StopPoint) (s : State) → s.context ≡ standing.now → Tells s reply → result ≡ next_point stop armed Point.AtChoose s }
+    ensures { (stop : StopPoint) (s : State) → s.context ≡ standing.now → Tells s reply →
+        result ≡ next_point stop armed Point.AtChoose s }
 {
     if standing.endpoint.is_some() {
         or_settle(armed, reply, Point::AtApply)
@@ -278,7 +291,8 @@ fn after_choose(armed: Armed, reply: Reply, standing: &Standing) -> Place
 }
 
 fn after_stream(armed: Armed, reply: Reply) -> Place
-    ensures { (stop : StopPoint) (s : State) → Tells s reply → result ≡ next_point stop armed Point.AtStream s }
+    ensures { (stop : StopPoint) (s : State) → Tells s reply →
+        result ≡ next_point stop armed Point.AtStream s }
 {
     if reply.not_streaming {
         here(armed, Point::AtBody)
@@ -288,7 +302,8 @@ fn after_stream(armed: Armed, reply: Reply) -> Place
 }
 
 fn after_body(armed: Armed, reply: Reply) -> Place
-    ensures { (stop : StopPoint) (s : State) → Tells s reply → result ≡ next_point stop armed Point.AtBody s }
+    ensures { (stop : StopPoint) (s : State) → Tells s reply →
+        result ≡ next_point stop armed Point.AtBody s }
 {
     if reply.read {
         here(armed, Point::AtDeserialize)
@@ -299,7 +314,8 @@ fn after_body(armed: Armed, reply: Reply) -> Place
 
 #[tactic(auto, unfolding(run_grammar::specs::Tests::checkpoint_stands))]
 fn after_start_retry(armed: Armed, reply: Reply, standing: &Standing) -> Place
-    ensures { (stop : StopPoint) (s : State) → s.context ≡ standing.now → Tells s reply → result ≡ next_point stop armed Point.AtStartRetry s }
+    ensures { (stop : StopPoint) (s : State) → s.context ≡ standing.now → Tells s reply →
+        result ≡ next_point stop armed Point.AtStartRetry s }
 {
     if reply.has_started(Role::Retry) && standing.context.checkpoint.is_some() {
         here(armed, Point::AtWaitRetry)
@@ -309,7 +325,8 @@ fn after_start_retry(armed: Armed, reply: Reply, standing: &Standing) -> Place
 }
 
 fn after_start_long_poll(armed: Armed, reply: Reply) -> Place
-    ensures { (stop : StopPoint) (s : State) → Tells s reply → result ≡ next_point stop armed Point.AtStartLongPoll s }
+    ensures { (stop : StopPoint) (s : State) → Tells s reply →
+        result ≡ next_point stop armed Point.AtStartLongPoll s }
 {
     if reply.has_started(Role::LongPoll) {
         here(armed, Point::AtWaitLongPoll)
@@ -319,7 +336,8 @@ fn after_start_long_poll(armed: Armed, reply: Reply) -> Place
 }
 
 fn after_token(armed: Armed, reply: Reply, standing: &Standing) -> Place
-    ensures { (stop : StopPoint) (s : State) → s.context ≡ standing.now → Tells s reply → result ≡ next_point stop armed Point.AtTokenInitial s }
+    ensures { (stop : StopPoint) (s : State) → s.context ≡ standing.now → Tells s reply →
+        result ≡ next_point stop armed Point.AtTokenInitial s }
 {
     if reply.delayed {
         here(armed, Point::AtTokenStartSend)
@@ -331,7 +349,8 @@ fn after_token(armed: Armed, reply: Reply, standing: &Standing) -> Place
 }
 
 fn after_token_start_send(armed: Armed, reply: Reply) -> Place
-    ensures { (stop : StopPoint) (s : State) → Tells s reply → result ≡ next_point stop armed Point.AtTokenStartSend s }
+    ensures { (stop : StopPoint) (s : State) → Tells s reply →
+        result ≡ next_point stop armed Point.AtTokenStartSend s }
 {
     if reply.has_started(Role::Send) {
         here(armed, Point::AtTokenWaitSend)

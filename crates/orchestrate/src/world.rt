@@ -25,7 +25,8 @@ pub trait World {
         ensures told { IfOk result (λ a. calls self.new ≡ calls self.old ++ entry question a ∷ []) }
         ensures fitting { IfOk result (λ a. fits (kind_of_question question) a ≡ true) }
         ensures lost { OnErr result (Unanswered question (calls self.old) (calls self.new)) }
-        ensures related { IfOk result (λ a. (w : Self) (l : List Entry) → relates w l self.old → relates w (l ++ entry question a ∷ []) self.new) };
+        ensures related { IfOk result (λ a. (w : Self) (l : List Entry) → relates w l self.old →
+            relates w (l ++ entry question a ∷ []) self.new) };
 
     /// No entry relates a world to itself.
     ghost relates_nothing: { (w : Self) → relates w [] w };

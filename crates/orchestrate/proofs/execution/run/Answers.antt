@@ -1,6 +1,6 @@
-use Rattle.std.proofs.Common.{Ok, Err, ap, subst, arith, ◌+◌, ◌≡◌, ◌≤◌}
+use Rattle.std.proofs.Common.{Ok, Err, Some, ap, sym, ◌∙◌, subst, arith, ◌+◌, ◌≡◌, ◌≤◌}
 use Rattle.std.specs.Prelude.{OnErr}
-use Rattle.orchestrate.specs.Stands.{Drove, Progress, RunLost}
+use Rattle.orchestrate.specs.Stands.{Drove, Progress, Ran, RunLost}
 use Rattle.orchestrate.proofs.HandingLemmas.{handed_nothing, handed_more}
 use Rattle.orchestrate.proofs.Running.{progress_start, progress_more, ran_whole, ran_unfinished, run_lost}
 use Rattle.orchestrate.proofs.execution.run.Goals as goal
@@ -32,13 +32,14 @@ returns-in_err-drive-clause-lost g c =
 pub returns-in-None-clause-ran : goal.returns-in-None-clause-ran
 returns-in-None-clause-ran g c =
     let e : c.loop.counter ≡ c.args.fuel = omega arith in
-    ran_whole c.args.input c.args.stop c.args.fuel c.loop.invocation (g.W.World.calls c.args.world.now) (g.W.World.calls c.loop.world) c.in-None.is
-    (subst (λ n. Progress c.args.input c.args.stop c.loop.invocation (g.W.World.calls c.args.world.now) (g.W.World.calls c.loop.world) n) e c.loop.invariant.0)
+    subst (λ d. Ran c.args.input c.args.stop c.args.fuel (Some d) (g.W.World.calls c.args.world.now) (g.W.World.calls c.loop.world)) (sym c.into_standing-in-None.ensures) (
+    ran_whole c.args.input c.args.stop c.args.fuel c.loop.invocation (g.W.World.calls c.args.world.now) (g.W.World.calls c.loop.world) (sym c.point.ensures ∙ c.in-None.is)
+    (subst (λ n. Progress c.args.input c.args.stop c.loop.invocation (g.W.World.calls c.args.world.now) (g.W.World.calls c.loop.world) n) e c.loop.invariant.0))
 
 pub returns-in-Some-clause-ran : goal.returns-in-Some-clause-ran
 returns-in-Some-clause-ran g c =
     let e : c.loop.counter ≡ c.args.fuel = omega arith in
-    ran_unfinished c.args.input c.args.stop c.args.fuel c.loop.invocation c.in-Some.field-0 (g.W.World.calls c.args.world.now) (g.W.World.calls c.loop.world) c.in-Some.is
+    ran_unfinished c.args.input c.args.stop c.args.fuel c.loop.invocation c.in-Some.field-0 (g.W.World.calls c.args.world.now) (g.W.World.calls c.loop.world) (sym c.point.ensures ∙ c.in-Some.is)
     (subst (λ n. Progress c.args.input c.args.stop c.loop.invocation (g.W.World.calls c.args.world.now) (g.W.World.calls c.loop.world) n) e c.loop.invariant.0)
 
 pub returns-in-Ended-clause-related : goal.returns-in-Ended-clause-related

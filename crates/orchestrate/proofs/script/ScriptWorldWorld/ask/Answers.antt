@@ -2,7 +2,7 @@ use Rattle.std.proofs.Common.{◌≡◌, true, ◌++◌, ◌∷◌, [], ap, sym,
 use Rattle.run_grammar.specs.Entry.{entry}
 use Rattle.run_grammar.specs.Fits.{fits}
 use Rattle.run_grammar.specs.Question.{kind_of_question}
-use Rattle.orchestrate.specs.Script.{Replies, RepliesBy, left_by, next_of}
+use Rattle.orchestrate.specs.Script.{RepliesBy, left_by, next_of}
 use Rattle.orchestrate.proofs.ScriptLemmas.{spelled_more}
 use Rattle.orchestrate.proofs.script.ScriptWorldWorld.ask.Goals as goal
 
