@@ -1,10 +1,10 @@
 -- Choose, without a cache of identities.
-use Rattle.std.specs.Prelude.{◌≡◌, ℕ, Bool, true, false, ◌&&◌, if◌then◌else◌, List, [], map, position, slice_get, slice_set, Option, None, Some}
+use Rattle.std.specs.Prelude.{◌≡◌, ℕ, Bool, true, false, ◌&&◌, if◌then◌else◌, List, [], ◌∷◌, map, position, slice_get, slice_set, Option, None, Some}
 use Rattle.auth_endpoint.specs.Choice.{IsChosen, NoneChosen, is_id, lack_of, reprioritized, schemes_of}
 use Rattle.auth_endpoint.specs.Texts.{no_match_text}
 use Rattle.auth_endpoint.specs.declared.explored.ExploredList.{ExploredList}
 use Rattle.auth_endpoint.specs.declared.explored.NoMatchingAuthSchemeError.TheVariants.{Explored}
-use Rattle.outside.specs.Calls.{OutsideCall}
+use Rattle.outside.specs.Calls.{OutsideCall, DropResolve}
 use Rattle.outside.specs.declared.answers.IdentityPoll.{IdentityPoll}
 use Rattle.outside.specs.declared.answers.IdentityPoll.TheVariants as polled
 use Rattle.run_grammar.specs.declared.answer.Answer.{Answer}
@@ -21,6 +21,13 @@ use Rattle.auth_parts.specs.declared.choose.Picked.TheVariants.{Scheme, Refused}
 use Rattle.auth_parts.specs.declared.sources.IdentitySource.{IdentitySource}
 use Rattle.auth_parts.specs.declared.sources.IdentitySource.TheVariants.{Outside, Resolver}
 use Rattle.auth_parts.specs.declared.sources.RegisteredSource.{RegisteredSource}
+
+abbrev pub no_load : OpenLoad
+no_load = record { by_outside = false }
+
+-- a load that is open outside is dropped there
+abbrev pub ending_load : OpenLoad → List OutsideCall
+ending_load load = if load.by_outside then DropResolve ∷ [] else []
 
 -- without the mark V2 the endpoint is resolved before the choice
 abbrev pub endpoint_before : Endpoint → StandingLayers → Option Endpoint

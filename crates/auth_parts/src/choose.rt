@@ -3,7 +3,7 @@ ghost use Rattle.std.specs.Prelude.{◌≡◌, None, Some, IfOk, OnErr, MatchOpt
 ghost use Rattle.auth_endpoint.specs.Choice.{is_id};
 ghost use Rattle.auth_endpoint.specs.Texts.{no_match_text};
 ghost use Rattle.smithy_types.specs.Chain.{Chained};
-ghost use Rattle.auth_parts.specs.Choosing.{Asks, Chooses, Picks, Resolves, endpoint_before, is_outside, is_pending};
+ghost use Rattle.auth_parts.specs.Choosing.{Asks, Chooses, Picks, Resolves, ending_load, endpoint_before, is_outside, is_pending, no_load};
 
 use crate::reading::{has_v2, standing_preference};
 use crate::sources::{IdentitySource, RegisteredSource, ask_source, source_ids};
@@ -20,6 +20,26 @@ use std::alloc::Global;
 pub struct OpenLoad {
     /// Whether the outside loads an identity.
     pub by_outside: bool,
+}
+
+impl OpenLoad {
+    /// No load is open.
+    pub fn none() -> OpenLoad
+        ensures { result ≡ no_load }
+    {
+        OpenLoad { by_outside: false }
+    }
+}
+
+/// Gives an open load up.
+pub fn end_load<X: Outside>(load: &mut OpenLoad, outside: &mut X)
+    ensures load { load.new ≡ no_load }
+    ensures calls { Chained X.makes outside.old (ending_load load.old) outside.new }
+{
+    if load.by_outside {
+        outside.drop_resolve();
+    }
+    *load = OpenLoad::none();
 }
 
 /// What was picked among the options.

@@ -1,0 +1,5 @@
+pub mod Calling
+pub mod Choosing
+pub mod Resting
+pub mod Retrying
+pub mod Serving

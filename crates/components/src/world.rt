@@ -1,0 +1,134 @@
+//! The world of a client.
+ghost use Rattle.std.specs.Prelude.{◌≡◌, [], ◌∷◌, ◌++◌, List, Ok, IfOk};
+ghost use Rattle.run_grammar.specs.Entry.{entry};
+ghost use Rattle.run_grammar.specs.declared.answer.Entry.{Entry};
+ghost use Rattle.components.specs.Resting.{Exchanges};
+ghost use Rattle.retry_parts.specs.Strategies.{Closes};
+ghost use Rattle.retry_quota.specs.Calls.{limiters_by};
+
+use crate::Parts;
+use auth_endpoint::AuthScheme;
+use auth_parts::{DeserializeResponse, SerializeRequest};
+use identity_cell::ResolveIdentity;
+use outside::Outside;
+use retry_parts::TakeOffer;
+use orchestrate::World;
+use retry_policy::ClassifyRetry;
+use retry_quota::Quota;
+use run_grammar::{Answer, Entry, Question};
+use smithy_types::{List, OutOfMemory};
+use std::alloc::Global;
+
+/// A client's parts, with the log of what they were asked.
+#[derive(Drop)]
+pub struct RuntimeComponents<
+    X: Outside + Drop,
+    Q: Quota + Drop,
+    C: ClassifyRetry,
+    I: TakeOffer,
+    A: AuthScheme,
+    R: ResolveIdentity,
+    Z: SerializeRequest,
+    D: DeserializeResponse,
+> {
+    /// What it answers from.
+    pub parts: Parts<X, Q, C, I, A, R, Z, D>,
+    /// What it was asked and answered, in order.
+    pub log: List<Entry>,
+}
+
+impl<
+    X: Outside + Drop,
+    Q: Quota + Drop,
+    C: ClassifyRetry,
+    I: TakeOffer,
+    A: AuthScheme,
+    R: ResolveIdentity,
+    Z: SerializeRequest,
+    D: DeserializeResponse,
+> RuntimeComponents<X, Q, C, I, A, R, Z, D> {
+    /// What it was asked and answered, in order.
+    pub fn entries(&self) -> &List<Entry>
+        ensures { result.now ≡ self.now.log }
+    {
+        &self.log
+    }
+
+    /// Ends what is open, and exchanges the outside and the quota for these.
+    pub fn swap_parts(&mut self, outside: &mut X, quota: &mut Q)
+        ensures parts { Exchanges X.makes self.old.parts outside.old quota.old self.new.parts outside.new quota.new }
+        ensures log { self.new.log ≡ self.old.log }
+    {
+        self.parts.exchange(outside, quota);
+    }
+
+    /// Gives the permit back that the retry strategy holds.
+    pub fn close(&mut self)
+        ensures strategy { Closes (record { meaning = Q.meaning; permit_bucket = Q.permit_bucket; permit_amount = Q.permit_amount; limiters = limiters_by Q.Limiter.at Q.Limiter.after_acquire Q.Limiter.reply_to Q.Limiter.after_update }) self.old.parts.strategy self.old.parts.quota self.new.parts.strategy self.new.parts.quota }
+        ensures others { self.new ≡ record self.old { parts = record self.old.parts { strategy = self.new.parts.strategy; quota = self.new.parts.quota } } }
+    {
+        self.parts.strategy.close(&mut self.parts.quota);
+    }
+
+    // Puts the question with this answer in the place of the last entry.
+    fn note(&mut self, question: Question, answer: Answer)
+        requires { (before : List Entry) × (last : Entry) × (self.old.log ≡ before ++ last ∷ []) }
+        ensures log { (before : List Entry) (last : Entry) → self.old.log ≡ before ++ last ∷ [] → self.new.log ≡ before ++ entry question answer ∷ [] }
+        ensures parts { self.new.parts ≡ self.old.parts }
+    {
+        let place = self.log.len() - 1;
+        self.log.replace(place, Entry { question, answer });
+    }
+}
+
+impl<
+    X: Outside + Drop,
+    Q: Quota + Drop,
+    C: ClassifyRetry,
+    I: TakeOffer,
+    A: AuthScheme,
+    R: ResolveIdentity,
+    Z: SerializeRequest,
+    D: DeserializeResponse,
+> World for RuntimeComponents<X, Q, C, I, A, R, Z, D> {
+    ghost use Rattle.std.specs.Prelude.{refl};
+    ghost use Rattle.components.specs.Serving.{Served};
+
+    ghost calls = { λ w. w.log };
+
+    ghost relates = { λ w l v. Served (record {
+            makes = X.makes; sleeps = X.sleeps; quota = record { meaning = Q.meaning; permit_bucket = Q.permit_bucket; permit_amount = Q.permit_amount; limiters = limiters_by Q.Limiter.at Q.Limiter.after_acquire Q.Limiter.reply_to Q.Limiter.after_update }; says = C.says;
+            chain = record { names = I.names; hooks = I.hooks; runs = I.runs; with_bucket = I.with_bucket; with_verdict = I.with_verdict };
+            names = A.names; signs = A.signs; polls = R.polls; serializes = Z.serializes; streams = D.streams; deserializes = D.deserializes }) w.parts l v.parts };
+
+    fn ask(&mut self, alloc: Global, question: Question) -> Result<Answer, OutOfMemory> {
+        self.log.push(
+            alloc,
+            Entry {
+                question: Question::Park,
+                answer: Answer::NoMemory,
+            },
+        )?;
+        match copied(self.parts.answer(alloc, &question)) {
+            Ok((answer, noted)) => {
+                self.note(question, noted);
+                Ok(answer)
+            }
+            Err(refused) => {
+                self.note(question, Answer::NoMemory);
+                Err(refused)
+            }
+        }
+    }
+
+    ghost relates_nothing = { λ w. refl };
+}
+
+// An answer and a copy of it.
+fn copied(answer: Result<Answer, OutOfMemory>) -> Result<(Answer, Answer), OutOfMemory>
+    ensures { IfOk result (λ pair. (answer ≡ Ok pair.0) × (pair.1 ≡ pair.0)) }
+{
+    let answer = answer?;
+    let copy = answer.clone()?;
+    Ok((answer, copy))
+}
