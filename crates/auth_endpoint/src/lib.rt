@@ -13,6 +13,7 @@ pub mod preference;
 pub mod request;
 pub mod resolver;
 pub mod scheme;
+pub mod shared;
 
 pub use apply::apply_endpoint;
 pub use choice::{Place, choose};
@@ -26,3 +27,4 @@ pub use preference::reprioritize;
 pub use request::apply_endpoint_to_request;
 pub use resolver::{StaticUriEndpointResolver, StaticUriEndpointResolverParams};
 pub use scheme::{AuthScheme, Signed};
+pub use shared::{SharedAuthScheme, SharedIdentityResolver};
