@@ -4,6 +4,7 @@ use Rattle.smithy_context.specs.StandingLayers.{StandingLayers}
 use Rattle.smithy_types.specs.declared.http.Body.{Body}
 use Rattle.smithy_types.specs.declared.http.Body.TheVariants as body
 use Rattle.smithy_types.specs.declared.http.HttpRequest.{HttpRequest}
+use Rattle.smithy_types.specs.declared.http.HttpResponse.{HttpResponse}
 use Rattle.outside.specs.Calls.{OutsideCall}
 use Rattle.outside.specs.declared.answers.Sent.{Sent}
 use Rattle.outside.specs.declared.answers.Sent.TheVariants as sents
@@ -14,13 +15,13 @@ use Rattle.run_grammar.specs.declared.kind.Abandonable.{Abandonable}
 use Rattle.run_grammar.specs.declared.kind.Kind.TheVariants as kinds
 use Rattle.run_grammar.specs.declared.kind.Role.{Role}
 use Rattle.call_parts.specs.declared.call.Call.{Call}
-use Rattle.call_parts.specs.declared.call.Call.TheVariants.{Idle, Sending, Reading, Left}
-use Rattle.call_parts.specs.declared.call.Reading.{Reading as OpenBody}
-use Rattle.call_parts.specs.declared.call.Stop.{Stop}
-use Rattle.call_parts.specs.declared.call.Stop.TheVariants as stops
+use Rattle.call_parts.specs.declared.call.Call.TheVariants.{Idle, Sending, Arrived, Reading, Left}
+use Rattle.call_parts.specs.declared.reading.Reading.{Reading as OpenBody}
+use Rattle.call_parts.specs.declared.reading.Stop.{Stop}
+use Rattle.call_parts.specs.declared.reading.Stop.TheVariants as stops
 use Rattle.call_parts.specs.declared.sleeping.Sleeps.{Sleeps}
 use Rattle.call_parts.specs.Loading.{loaded, loaded_body}
-use Rattle.call_parts.specs.Reading.{ClosesAs, Reads}
+use Rattle.call_parts.specs.Reading.{ClosesAs, Reads, ReadsOn}
 use Rattle.call_parts.specs.Sleeping.{Starts, Waits}
 use Rattle.call_parts.specs.Transmitting.{Transmits, sent_answer}
 
@@ -65,15 +66,20 @@ closes_fit : (stop : Stop) (end : OpenBody) (a : Answer) (new : Call) → Closes
 unfolding fits
 closes_fit stops.Pending end a new h = rw h.0 refl
 closes_fit stops.End end a new h = rw h.0 refl
-closes_fit (stops.Failed text) end a new h = rw h.0 refl
+closes_fit (stops.Failed text over) end a new h = rw h.0 refl
 closes_fit stops.TooLong end a new h = rw h.0 refl
 
-pub reads_fit : (old : Call) (a : Answer) (new : Call) (calls : List OutsideCall) → Reads old a new calls → fits kinds.Body a ≡ true
+reads_on_fit : (sleeps : Bool) (old : Call) (a : Answer) (new : Call) (calls : List OutsideCall) → ReadsOn sleeps old a new calls → fits kinds.Body a ≡ true
 unfolding fits
-reads_fit (Reading r) a new calls h = closes_fit h.stop h.end a new h.closes
-reads_fit Idle a new calls h = rw h.0 refl
-reads_fit Sending a new calls h = rw h.0 refl
-reads_fit Left a new calls h = rw h.0 refl
+reads_on_fit sleeps (Reading r) a new calls h = closes_fit h.stop h.end a new h.closes
+reads_on_fit sleeps Idle a new calls h = rw h.0 refl
+reads_on_fit sleeps Sending a new calls h = rw h.0 refl
+reads_on_fit sleeps Arrived a new calls h = rw h.0 refl
+reads_on_fit sleeps Left a new calls h = rw h.0 refl
+
+pub reads_fit : (sleeps : Bool) (settings : StandingLayers) (response : Option HttpResponse) (old : Call) (a : Answer) (new : Call) (calls : List OutsideCall) →
+    Reads sleeps settings response old a new calls → fits kinds.Body a ≡ true
+reads_fit sleeps settings response old a new calls h = reads_on_fit sleeps h.opened a new h.reading h.reads
 
 pub abandoned_fits : (what : Abandonable) → fits (kinds.Abandon what) answers.Abandoned ≡ true
 unfolding fits

@@ -5,14 +5,25 @@ use Rattle.run_grammar.specs.declared.kind.Abandonable.{Abandonable}
 use Rattle.run_grammar.specs.declared.kind.Abandonable.TheVariants as abandoned
 use Rattle.run_grammar.specs.declared.kind.Role.TheVariants as roles
 use Rattle.call_parts.specs.declared.call.Call.{Call}
-use Rattle.call_parts.specs.declared.call.Call.TheVariants.{Idle}
+use Rattle.call_parts.specs.declared.call.Call.TheVariants.{Idle, Reading}
 use Rattle.call_parts.specs.declared.sleeping.Sleeps.{Sleeps}
+use Rattle.call_parts.specs.Guarding.{stopped, stopping}
 use Rattle.call_parts.specs.Sleeping.{give_up_all, giving_up, no_sleeps, sleep_of, with_sleep}
 
--- an open call is dropped
+-- the guards of a body that is open give their sleep up
+abbrev pub quieting : Call → List OutsideCall
+quieting (Reading reading) = stopping reading.guards
+quieting _ = []
+
+-- the call as that leaves it
+abbrev pub quiet : Call → Call
+quiet (Reading reading) = Reading (record reading { guards = stopped reading.guards })
+quiet call = call
+
+-- an open call is dropped, behind what its guards give up
 abbrev pub ending_call : Call → List OutsideCall
 ending_call Idle = []
-ending_call _ = DropCall ∷ []
+ending_call call = quieting call ++ DropCall ∷ []
 
 -- the open call and the open sleeps are ended
 abbrev pub ending_calls : Sleeps → Call → List OutsideCall

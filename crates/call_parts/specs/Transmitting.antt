@@ -8,13 +8,13 @@ use Rattle.outside.specs.declared.answers.Sent.TheVariants as sents
 use Rattle.run_grammar.specs.declared.answer.Answer.{Answer}
 use Rattle.run_grammar.specs.declared.answer.Answer.TheVariants as answers
 use Rattle.call_parts.specs.declared.call.Call.{Call}
-use Rattle.call_parts.specs.declared.call.Call.TheVariants.{Idle, Sending, Reading}
-use Rattle.call_parts.specs.Opening.{unread}
+use Rattle.call_parts.specs.declared.call.Call.TheVariants.{Idle, Sending, Arrived}
+use Rattle.call_parts.specs.Ending.{quieting}
 
--- a call that isn't under way is begun
+-- a call that isn't under way is begun; the guards of a body that is open give their sleep up first
 abbrev pub beginning : StandingLayers → HttpRequest → Call → List OutsideCall
 beginning settings request Sending = []
-beginning settings request _ = Begin request settings (Ok tt) ∷ []
+beginning settings request call = quieting call ++ Begin request settings (Ok tt) ∷ []
 
 -- the answer is the connector's
 abbrev pub sent_answer : Sent → Answer
@@ -25,7 +25,7 @@ sent_answer (sents.Failed kind text) = answers.ConnectorFailed kind text
 -- the call that the connector's answer leaves
 abbrev pub sent_call : Sent → Call
 sent_call sents.Pending = Sending
-sent_call (sents.Response response) = Reading unread
+sent_call (sents.Response response) = Arrived
 sent_call (sents.Failed kind text) = Idle
 
 -- the connector is asked once, behind the beginning of the call where it isn't under way

@@ -19,12 +19,15 @@ pub fn end_call<X: Outside>(call: &mut Call, outside: &mut X)
 }
 
 // Drops the call at the outside, where one is open.
-fn drop_call<X: Outside>(call: &Call, outside: &mut X)
-    ensures { Chained X.makes outside.old (ending_call call.now) outside.new }
+fn drop_call<X: Outside>(call: &mut Call, outside: &mut X)
+    ensures { Chained X.makes outside.old (ending_call call.old) outside.new }
 {
     match call {
         Call::Idle => {}
-        _ => outside.drop_call(),
+        _ => {
+            call.quiet(outside);
+            outside.drop_call();
+        }
     }
 }
 

@@ -6,11 +6,16 @@ pub mod body;
 pub mod call;
 pub mod ending;
 pub mod gathered;
+pub mod guards;
 pub mod load;
 pub mod park;
+pub mod protection;
+pub mod reading;
 pub mod sleeping;
 pub mod transmit;
 
-pub use call::{Call, Reading};
+pub use call::Call;
 pub use gathered::Gathered;
+pub use guards::Guards;
+pub use reading::{Reading, Stop};
 pub use sleeping::Sleeps;

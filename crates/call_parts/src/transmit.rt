@@ -3,7 +3,7 @@ ghost use Rattle.std.specs.Prelude.{◌≡◌, IfOk, OnOk};
 ghost use Rattle.smithy_types.specs.Chain.{ByCalls, Chained};
 ghost use Rattle.call_parts.specs.Transmitting.{Transmits, beginning, sent_answer, sent_call};
 
-use crate::{Call, Reading};
+use crate::Call;
 use outside::{Outside, Sent};
 use run_grammar::Answer;
 use smithy_context::Settings;
@@ -46,6 +46,7 @@ fn begin<X: Outside>(
     match call {
         Call::Sending => Ok(()),
         _ => {
+            call.quiet(outside);
             outside.begin(alloc, request, settings)?;
             *call = Call::Sending;
             Ok(())
@@ -64,7 +65,7 @@ fn answer(alloc: Global, sent: Sent, call: &mut Call) -> Result<Answer, OutOfMem
             Ok(Answer::Pending)
         }
         Sent::Response(response) => {
-            *call = Call::Reading(Reading::new(alloc));
+            *call = Call::Arrived;
             Ok(Answer::Response(Shared::new(alloc, response)?))
         }
         Sent::Failed(kind, text) => {

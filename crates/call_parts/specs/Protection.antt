@@ -1,0 +1,31 @@
+-- How the settings that stand protect a body.
+use Rattle.std.specs.Prelude.{Bool, true, false, if◌then◌else◌, Option, None, Some}
+use Rattle.smithy_context.specs.Settings.{loaded}
+use Rattle.smithy_context.specs.StandingLayers.{StandingLayers}
+use Rattle.smithy_context.specs.declared.setting.Setting.{Setting}
+use Rattle.smithy_context.specs.declared.setting.Setting.TheVariants as set
+use Rattle.smithy_context.specs.declared.setting.SettingKey.TheVariants as keys
+use Rattle.smithy_types.specs.declared.config.StalledStreamProtectionConfig.{StalledStreamProtectionConfig}
+use Rattle.stream_guard.specs.Options.{default_options}
+use Rattle.stream_guard.specs.declared.options.MinimumThroughputBodyOptions.{MinimumThroughputBodyOptions}
+
+abbrev pub stall_of : Option Setting → Option StalledStreamProtectionConfig
+stall_of (Some (set.Stall config)) = Some config
+stall_of _ = None
+
+abbrev pub is_enforced : Option Setting → Bool
+is_enforced (Some set.EnforceLength) = true
+is_enforced _ = false
+
+-- which streams are given up where they stall, where it is set
+abbrev pub standing_stall : StandingLayers → Option StalledStreamProtectionConfig
+standing_stall settings = stall_of (loaded settings keys.Stall)
+
+-- when a response's body stalls: it is watched where its protection is on
+abbrev pub download_options : Option StalledStreamProtectionConfig → Option MinimumThroughputBodyOptions
+download_options None = None
+download_options (Some config) = if config.download then Some (record default_options { grace_period = config.grace_period }) else None
+
+-- whether a response's body is held to the length that it declares
+abbrev pub enforces_length : StandingLayers → Bool
+enforces_length settings = is_enforced (loaded settings keys.EnforceLength)

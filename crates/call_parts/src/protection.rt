@@ -1,0 +1,43 @@
+//! How the settings that stand protect a body.
+ghost use Rattle.std.specs.Prelude.{◌≡◌};
+ghost use Rattle.call_parts.specs.Protection.{download_options, enforces_length, standing_stall};
+
+use smithy_context::{Setting, SettingKey, Settings};
+use smithy_types::StalledStreamProtectionConfig;
+use stream_guard::MinimumThroughputBodyOptions;
+
+/// Which streams are given up where they stall, where it is set.
+pub(crate) fn standing_stall(settings: &Settings) -> Option<StalledStreamProtectionConfig>
+    ensures { result ≡ standing_stall settings.now }
+{
+    match settings.load(&SettingKey::Stall) {
+        Some(Setting::Stall(config)) => Some(*config),
+        _ => None,
+    }
+}
+
+/// When a response's body stalls, where it is watched.
+pub(crate) fn download_options(settings: &Settings) -> Option<MinimumThroughputBodyOptions>
+    ensures { result ≡ download_options (standing_stall settings.now) }
+{
+    match standing_stall(settings) {
+        Some(config) => {
+            if config.download {
+                Some(MinimumThroughputBodyOptions::from(config))
+            } else {
+                None
+            }
+        }
+        None => None,
+    }
+}
+
+/// Whether a response's body is held to the length that it declares.
+pub(crate) fn enforces_length(settings: &Settings) -> bool
+    ensures { result ≡ enforces_length settings.now }
+{
+    matches!(
+        settings.load(&SettingKey::EnforceLength),
+        Some(Setting::EnforceLength)
+    )
+}
