@@ -5,3 +5,5 @@ pub mod Options
 pub mod Rate
 pub mod RateOrder
 pub mod Report
+pub mod Ring
+pub mod Totals

@@ -1,3 +1,4 @@
+//! Small parts of time, and what happened in them.
 ghost use Rattle.std.specs.Prelude.{◌≡◌, ◌+◌, ◌-◌, ◌^◌, min};
 
 /// The most telling thing that happened in a bin, the least telling first.
@@ -73,6 +74,22 @@ impl Bin {
         label: BinLabel::NoPolling,
         bytes: 0,
     };
+
+    /// A bin in which the stream was polled, and had nothing.
+    pub const PENDING: Bin = Bin {
+        label: BinLabel::Pending,
+        bytes: 0,
+    };
+
+    /// A bin in which so many bytes were transferred.
+    pub const fn transferred(bytes: u64) -> Bin
+        ensures { result ≡ record { label = BinLabel.TransferredBytes; bytes = bytes } }
+    {
+        Bin {
+            label: BinLabel::TransferredBytes,
+            bytes,
+        }
+    }
 
     /// Both bins in one.
     pub fn merged(self, other: Bin) -> Bin

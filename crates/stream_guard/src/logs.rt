@@ -1,12 +1,13 @@
 //! What happened to a stream, by bins of time.
-ghost use Rattle.std.specs.Prelude.{◌≡◌, ◌+◌, ◌-◌, ◌*◌, ◌/◌, ◌<◌, ◌↔◌, ◌^◌, ◌∷◌, ◌++◌, [], true, not, length, List, Some, IsErr, IfErr, IfOk, drop};
+ghost use Rattle.std.specs.Prelude.{◌≡◌, ◌+◌, ◌-◌, ◌*◌, ◌/◌, ◌<◌, ◌≤◌, ◌↔◌, ◌^◌, ◌∷◌, ◌++◌, [], true, not, length, List, Some, IsErr, IfErr, IfOk, drop};
 ghost use Rattle.stream_guard.specs.Bin.{no_polling, Shifted};
 ghost use Rattle.stream_guard.specs.Report.{own_bin};
 
-use crate::report::{BIN_COUNT, judge};
-use crate::{Bin, BinLabel, ThroughputReport};
+use crate::ring::BinRing;
+use crate::{Bin, BinLabel, Steps, ThroughputReport};
 use smithy_types::BuildError;
-use std::marker::Model;
+use std::marker::{Brand, Model};
+use std::sync::ledger::{Blank, Ledger};
 
 /// What happened to a stream, in ten bins of equal length up to the latest moment that was seen.
 /// Moments are in ns.
@@ -19,7 +20,7 @@ pub struct ThroughputLogs {
     latest: u128,
     /// Whether an event came before the start.
     early: bool,
-    bins: [Bin; 10],
+    bins: BinRing,
 }
 
 impl Model for ThroughputLogs {
@@ -64,7 +65,7 @@ impl ThroughputLogs {
             stream_complete: false,
             latest: 0,
             early: false,
-            bins: [Bin::NO_POLLING; 10],
+            bins: BinRing::new(),
         }
     }
 
@@ -73,13 +74,18 @@ impl ThroughputLogs {
         ensures settings { SameSettings self.old self.new }
         ensures kept { (came : List Came) → Keeps self.old came → Keeps self.new (came ++ Pending now ∷ []) }
     {
-        self.push(
-            now,
-            Bin {
-                label: BinLabel::Pending,
-                bytes: 0,
-            },
-        );
+        self.catch_up(now);
+        self.add(Bin::PENDING);
+    }
+
+    /// The same, with a count of the pushes of bins.
+    pub fn push_pending_counted<L: Ledger>(&mut self, now: u64, steps: &mut Steps<L>)
+        ensures settings { SameSettings self.old self.new }
+        ensures kept { (came : List Came) → Keeps self.old came → Keeps self.new (came ++ Pending now ∷ []) }
+        ensures cost { steps.new ≤ steps.old + 10 }
+    {
+        self.catch_up_counted(now, steps);
+        self.add(Bin::PENDING);
     }
 
     /// The stream transferred so many bytes.
@@ -87,13 +93,23 @@ impl ThroughputLogs {
         ensures settings { SameSettings self.old self.new }
         ensures kept { (came : List Came) → Keeps self.old came → Keeps self.new (came ++ Transferred now bytes ∷ []) }
     {
-        self.push(
-            now,
-            Bin {
-                label: BinLabel::TransferredBytes,
-                bytes,
-            },
-        );
+        self.catch_up(now);
+        self.add(Bin::transferred(bytes));
+    }
+
+    /// The same, with a count of the pushes of bins.
+    pub fn push_bytes_transferred_counted<L: Ledger>(
+        &mut self,
+        now: u64,
+        bytes: u64,
+        steps: &mut Steps<L>,
+    )
+        ensures settings { SameSettings self.old self.new }
+        ensures kept { (came : List Came) → Keeps self.old came → Keeps self.new (came ++ Transferred now bytes ∷ []) }
+        ensures cost { steps.new ≤ steps.old + 10 }
+    {
+        self.catch_up_counted(now, steps);
+        self.add(Bin::transferred(bytes));
     }
 
     /// The stream has ended. True at the first call.
@@ -117,12 +133,15 @@ impl ThroughputLogs {
         self.current_report()
     }
 
-    /// Adds an event of this time to its bin, or to the latest where that is later.
-    fn push(&mut self, time: u64, event: Bin)
-        ensures { (mid : Log) × CatchesUp self.old time mid × AddsEvent mid event self.new }
+    /// The same, with a count of the pushes of bins.
+    pub fn report_counted<L: Ledger>(&mut self, now: u64, steps: &mut Steps<L>) -> ThroughputReport
+        ensures settings { SameSettings self.old self.new }
+        ensures kept { (came : List Came) → Keeps self.old came → Keeps self.new (came ++ Looked now ∷ []) }
+        ensures report { (came : List Came) → Keeps self.old came → result ≡ report_of self.old.start self.old.resolution self.old.complete came now }
+        ensures cost { steps.new ≤ steps.old + 10 }
     {
-        self.catch_up(time);
-        self.add(event);
+        self.catch_up_counted(now, steps);
+        self.current_report()
     }
 
     /// What the bins say, as they are.
@@ -130,24 +149,43 @@ impl ThroughputLogs {
         ensures ten { length self.now.bins ≡ 10 }
         ensures shown { result ≡ shown self.now }
     {
-        let bins: &[Bin] = &self.bins;
+        let judged = self.bins.judge(self.resolution);
         let needed = if self.early { 9 } else { 10 };
         if self.stream_complete {
             ThroughputReport::Complete
         } else if self.latest < needed {
             ThroughputReport::Incomplete
         } else {
-            judge(bins, self.resolution)
+            judged
         }
     }
 
-    /// Moves the bins on until the latest is that of the moment, where it is later.
+    // Moves the bins on until the latest is that of the moment, where it is later.
     fn catch_up(&mut self, now: u64)
         ensures { CatchesUp self.old now self.new }
     {
+        self.catch_up_from::<Brand>(now, Blank::new(1));
+    }
+
+    // The same, with a count that nobody sees.
+    fn catch_up_from<L: Ledger>(&mut self, now: u64, blank: Blank)
+        requires name { blank.name ≡ L.name }
+        requires parts { blank.parts ≡ L.parts }
+        requires some { 0 < blank.parts }
+        ensures { CatchesUp self.old now self.new }
+    {
+        let mut steps = Steps::<L>::new(blank);
+        self.catch_up_counted(now, &mut steps);
+    }
+
+    // The same, with a count of the pushes of bins.
+    fn catch_up_counted<L: Ledger>(&mut self, now: u64, steps: &mut Steps<L>)
+        ensures caught_up { CatchesUp self.old now self.new }
+        ensures cost { steps.new ≤ steps.old + 10 }
+    {
         let bin = bin_of(self.start, self.resolution, now);
         if bin > self.latest {
-            shift_by(&mut self.bins, bin - self.latest);
+            self.bins.advance(bin - self.latest, steps);
             self.latest = bin;
         }
     }
@@ -156,7 +194,7 @@ impl ThroughputLogs {
     fn add(&mut self, event: Bin)
         ensures { AddsEvent self.old event self.new }
     {
-        self.bins[BIN_COUNT - 1] = self.bins[BIN_COUNT - 1].merged(event);
+        self.bins.add(event);
         if self.latest == 0 {
             self.early = true;
         }
@@ -173,30 +211,6 @@ fn bin_of(start: u64, resolution: u64, now: u64) -> u128
     } else {
         u128::from((now - start) / resolution) + 1
     }
-}
-
-/// Moves ten bins so many places on. Nothing has happened in those that come in.
-fn shift_by(bins: &mut [Bin], places: u128)
-    requires { length bins.old ≡ 10 }
-    ensures { Shifted places bins.old bins.new }
-{
-    let shifts = if places < 10 {
-        places as usize
-    } else {
-        BIN_COUNT
-    };
-    for _shift in 0..shifts {
-        shift_one(bins);
-    }
-}
-
-/// Moves ten bins one place on.
-fn shift_one(bins: &mut [Bin])
-    requires { length bins.old ≡ 10 }
-    ensures { Shifted 1 bins.old bins.new }
-{
-    bins.rotate_left(1);
-    bins[BIN_COUNT - 1] = Bin::NO_POLLING;
 }
 
 #[cfg(test)]

@@ -1,3 +1,4 @@
+//! Rates: so many bytes over so many ns.
 ghost use Rattle.std.specs.Prelude.{◌≡◌, ◌-◌, ◌*◌, ◌^◌, min};
 ghost use Rattle.stream_guard.specs.Rate.{rate_cmp};
 

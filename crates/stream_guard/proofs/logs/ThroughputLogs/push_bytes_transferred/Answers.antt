@@ -4,4 +4,4 @@ use Rattle.stream_guard.proofs.LogLemmas.{pushed}
 use Rattle.stream_guard.proofs.logs.ThroughputLogs.push_bytes_transferred.Goals as goal
 
 pub returns-clause-kept : goal.returns-clause-kept
-returns-clause-kept c came kept = pushed c.args.self.now c.push.ensures.0 c.push.new.self came (Transferred c.args.now c.args.bytes) _ (λ bin. refl) kept c.push.ensures.1 c.push.ensures.2
+returns-clause-kept c came kept = pushed c.args.self.now c.catch_up.new.self c.add.new.self came (Transferred c.args.now c.args.bytes) _ (λ bin. refl) kept c.catch_up.ensures (rw c.transferred.ensures at c.add.ensures)
