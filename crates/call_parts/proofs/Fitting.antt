@@ -1,6 +1,7 @@
 -- Each answer fits its question.
 use Rattle.std.proofs.Common.{◌≡◌, ℕ, Bool, true, List, Option, None, Some, refl}
 use Rattle.smithy_context.specs.StandingLayers.{StandingLayers}
+use Rattle.smithy_types.specs.declared.fault.Fault.{Fault}
 use Rattle.smithy_types.specs.declared.http.Body.{Body}
 use Rattle.smithy_types.specs.declared.http.Body.TheVariants as body
 use Rattle.smithy_types.specs.declared.http.HttpRequest.{HttpRequest}
@@ -20,10 +21,11 @@ use Rattle.call_parts.specs.declared.reading.Reading.{Reading as OpenBody}
 use Rattle.call_parts.specs.declared.reading.Stop.{Stop}
 use Rattle.call_parts.specs.declared.reading.Stop.TheVariants as stops
 use Rattle.call_parts.specs.declared.sleeping.Sleeps.{Sleeps}
+use Rattle.call_parts.specs.declared.upload.Upload.{Upload}
 use Rattle.call_parts.specs.Loading.{loaded, loaded_body}
 use Rattle.call_parts.specs.Reading.{ClosesAs, Reads, ReadsOn}
 use Rattle.call_parts.specs.Sleeping.{Starts, Waits}
-use Rattle.call_parts.specs.Transmitting.{Transmits, sent_answer}
+use Rattle.call_parts.specs.Transmitting.{Pends, SentAs, StallsAs, Transmits}
 
 pub starts_fit : (has : Bool) (role : Role) (nanos : Option ℕ) (old : Sleeps) (a : Answer) (new : Sleeps) (calls : List OutsideCall) →
     Starts has role nanos old a new calls → fits (kinds.Start role) a ≡ true
@@ -50,17 +52,27 @@ unfolding fits
 loaded_fits None = refl
 loaded_fits (Some request) = body_fits request.body
 
-sent_fits : (sent : Sent) → fits kinds.Transmit (sent_answer sent) ≡ true
+stalls_fit : (fault : Option Fault) (upload : Upload) (a : Answer) (new : Call) → StallsAs fault upload a new → fits kinds.Transmit a ≡ true
 unfolding fits
-sent_fits sents.Pending = refl
-sent_fits (sents.Response response) = refl
-sent_fits (sents.Failed kind text) = refl
+stalls_fit None upload a new h = rw h.0 refl
+stalls_fit (Some fault) upload a new h = rw h.0 refl
 
-pub transmits_fit : (settings : StandingLayers) (request : Option HttpRequest) (old : Call) (a : Answer) (new : Call) (calls : List OutsideCall) →
-    Transmits settings request old a new calls → fits kinds.Transmit a ≡ true
+pends_fit : (sleeps : Bool) (upload : Option Upload) (a : Answer) (new : Call) (calls : List OutsideCall) → Pends sleeps upload a new calls → fits kinds.Transmit a ≡ true
 unfolding fits
-transmits_fit settings None old a new calls h = rw h.0 refl
-transmits_fit settings (Some request) old a new calls h = rw h.answer_is (sent_fits h.sent)
+pends_fit sleeps None a new calls h = rw h.0 refl
+pends_fit sleeps (Some upload) a new calls h = stalls_fit h.fault h.looked a new h.stalls
+
+sent_fits : (sleeps : Bool) (upload : Option Upload) (sent : Sent) (a : Answer) (new : Call) (calls : List OutsideCall) → SentAs sleeps upload sent a new calls → fits kinds.Transmit a ≡ true
+unfolding fits
+sent_fits sleeps upload sents.Pending a new calls h = pends_fit sleeps upload a new calls h
+sent_fits sleeps upload (sents.Response response) a new calls h = rw h.0 refl
+sent_fits sleeps upload (sents.Failed kind text) a new calls h = rw h.0 refl
+
+pub transmits_fit : (sleeps : Bool) (settings : StandingLayers) (request : Option HttpRequest) (old : Call) (a : Answer) (new : Call) (calls : List OutsideCall) →
+    Transmits sleeps settings request old a new calls → fits kinds.Transmit a ≡ true
+unfolding fits
+transmits_fit sleeps settings None old a new calls h = rw h.0 refl
+transmits_fit sleeps settings (Some request) old a new calls h = sent_fits sleeps h.upload h.sent a new h.looking h.sent_as
 
 closes_fit : (stop : Stop) (end : OpenBody) (a : Answer) (new : Call) → ClosesAs stop end a new → fits kinds.Body a ≡ true
 unfolding fits
@@ -73,7 +85,7 @@ reads_on_fit : (sleeps : Bool) (old : Call) (a : Answer) (new : Call) (calls : L
 unfolding fits
 reads_on_fit sleeps (Reading r) a new calls h = closes_fit h.stop h.end a new h.closes
 reads_on_fit sleeps Idle a new calls h = rw h.0 refl
-reads_on_fit sleeps Sending a new calls h = rw h.0 refl
+reads_on_fit sleeps (Sending upload) a new calls h = rw h.0 refl
 reads_on_fit sleeps Arrived a new calls h = rw h.0 refl
 reads_on_fit sleeps Left a new calls h = rw h.0 refl
 

@@ -4,3 +4,4 @@ pub mod GuardLemmas
 pub mod ReadLemmas
 pub mod SendLemmas
 pub mod SleepLemmas
+pub mod UploadLemmas

@@ -6,3 +6,4 @@ pub mod Protection
 pub mod Reading
 pub mod Sleeping
 pub mod Transmitting
+pub mod Uploading

@@ -1,5 +1,5 @@
 -- How the settings that stand protect a body.
-use Rattle.std.specs.Prelude.{Bool, true, false, if◌then◌else◌, Option, None, Some}
+use Rattle.std.specs.Prelude.{Bool, true, false, ◌&&◌, ◌||◌, if◌then◌else◌, Option, None, Some}
 use Rattle.smithy_context.specs.Settings.{loaded}
 use Rattle.smithy_context.specs.StandingLayers.{StandingLayers}
 use Rattle.smithy_context.specs.declared.setting.Setting.{Setting}
@@ -17,6 +17,10 @@ abbrev pub is_enforced : Option Setting → Bool
 is_enforced (Some set.EnforceLength) = true
 is_enforced _ = false
 
+abbrev pub is_marked : Option Setting → Bool
+is_marked (Some set.Upload) = true
+is_marked _ = false
+
 -- which streams are given up where they stall, where it is set
 abbrev pub standing_stall : StandingLayers → Option StalledStreamProtectionConfig
 standing_stall settings = stall_of (loaded settings keys.Stall)
@@ -29,3 +33,13 @@ download_options (Some config) = if config.download then Some (record default_op
 -- whether a response's body is held to the length that it declares
 abbrev pub enforces_length : StandingLayers → Bool
 enforces_length settings = is_enforced (loaded settings keys.EnforceLength)
+
+-- whether the mark stands that the upload is watched
+abbrev pub upload_marked : StandingLayers → Bool
+upload_marked settings = is_marked (loaded settings keys.Upload)
+
+-- when an upload stalls: it is watched where the mark stands and a protection is on
+abbrev pub upload_options : Bool → Option StalledStreamProtectionConfig → Option MinimumThroughputBodyOptions
+upload_options marked None = None
+upload_options marked (Some config) =
+    if marked && (config.upload || config.download) then Some (record default_options { grace_period = config.grace_period }) else None

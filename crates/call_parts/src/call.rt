@@ -3,7 +3,7 @@ ghost use Rattle.std.specs.Prelude.{◌≡◌};
 ghost use Rattle.smithy_types.specs.Chain.{Chained};
 ghost use Rattle.call_parts.specs.Ending.{quiet, quieting};
 
-use crate::Reading;
+use crate::{Reading, Upload};
 use outside::Outside;
 
 /// The call at the connector.
@@ -11,8 +11,8 @@ use outside::Outside;
 pub enum Call {
     /// None is open.
     Idle,
-    /// The request was sent, and no response came yet.
-    Sending,
+    /// The request was sent, and no response came yet. The upload is watched or not.
+    Sending(Option<Upload>),
     /// The response came, and nothing of its body was read.
     Arrived,
     /// The body is read.

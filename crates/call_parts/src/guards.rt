@@ -31,7 +31,8 @@ impl Guards {
         response: &Option<Shared<HttpResponse>>,
         outside: &mut X,
     ) -> Guards
-        ensures { ByCalls X.makes outside.old (SetsUp settings.now response.now result) outside.new }
+        ensures { ByCalls X.makes outside.old (SetsUp settings.now response.now result)
+            outside.new }
     {
         let length = length_guard(settings, response);
         let throughput = throughput_guard(settings, outside);

@@ -13,9 +13,13 @@ pub mod protection;
 pub mod reading;
 pub mod sleeping;
 pub mod transmit;
+pub mod upload;
+pub mod whole_body;
 
 pub use call::Call;
 pub use gathered::Gathered;
 pub use guards::Guards;
 pub use reading::{Reading, Stop};
 pub use sleeping::Sleeps;
+pub use upload::Upload;
+pub use whole_body::WholeBody;

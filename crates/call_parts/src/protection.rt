@@ -1,6 +1,6 @@
 //! How the settings that stand protect a body.
 ghost use Rattle.std.specs.Prelude.{◌≡◌};
-ghost use Rattle.call_parts.specs.Protection.{download_options, enforces_length, standing_stall};
+ghost use Rattle.call_parts.specs.Protection.{download_options, enforces_length, standing_stall, upload_marked, upload_options};
 
 use smithy_context::{Setting, SettingKey, Settings};
 use smithy_types::StalledStreamProtectionConfig;
@@ -30,6 +30,29 @@ pub(crate) fn download_options(settings: &Settings) -> Option<MinimumThroughputB
         }
         None => None,
     }
+}
+
+/// When an upload stalls, where it is watched.
+pub(crate) fn upload_options(settings: &Settings) -> Option<MinimumThroughputBodyOptions>
+    ensures { result ≡ upload_options (upload_marked settings.now) (standing_stall settings.now) }
+{
+    match standing_stall(settings) {
+        Some(config) => {
+            if upload_marked(settings) && (config.upload || config.download) {
+                Some(MinimumThroughputBodyOptions::from(config))
+            } else {
+                None
+            }
+        }
+        None => None,
+    }
+}
+
+// Whether the mark stands that the upload is watched.
+fn upload_marked(settings: &Settings) -> bool
+    ensures { result ≡ upload_marked settings.now }
+{
+    matches!(settings.load(&SettingKey::Upload), Some(Setting::Upload))
 }
 
 /// Whether a response's body is held to the length that it declares.

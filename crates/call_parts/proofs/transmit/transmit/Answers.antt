@@ -3,4 +3,5 @@ use Rattle.call_parts.proofs.transmit.transmit.Goals as goal
 
 pub returns : goal.returns
 returns g c = rw c.in-Some.is
-    (sent_on g.X.Outside.makes _ _ c.answer.result _ _ c.in_ok-sent.sent _ _ _ (rw c.get.ensures at c.in_ok-begin.ensures.calls) c.in_ok-sent.ensures c.answer.ensures.answer c.answer.ensures.call)
+    (sent_on g.X.Outside.makes g.X.Timers.sleeps g.met.X.Outside.sleeps_stay _ _ _ _ c.in_ok-upload.upload c.in_ok-sent.sent c.answer.result _ _ _ _
+    (rw c.get.ensures at c.in_ok-upload.ensures) c.in_ok-sent.ensures c.answer.ensures)
