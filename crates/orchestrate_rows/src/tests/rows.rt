@@ -516,7 +516,8 @@ const CUT: &[Row] = &[
             asked::DECIDED,
             asked::FINISHED,
         ],
-        answer: "TimeoutError Timeout operation attempt timeout (single attempt) occurred after 5 ns",
+        answer: "TimeoutError Timeout operation attempt timeout \
+            (single attempt) occurred after 5 ns",
     },
 ];
 
