@@ -1,5 +1,6 @@
 pub mod Backoffs
 pub mod CellLemmas
+pub mod CountLemmas
 pub mod HistoryLemmas
 pub mod LazyLemmas
 pub mod LookLemmas

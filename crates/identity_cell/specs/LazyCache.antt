@@ -88,6 +88,11 @@ AnswersLook cell now (looked.Hit identity) = (ticket : ℕ) × (expiry : ℕ) ×
 AnswersLook cell now (looked.Load ticket) = (ticket ≡ begun_in cell.events) × (state_after_clear cell.buffer cell.state now ≡ state.Empty)
 AnswersLook cell now looked.NotYet = (ticket : ℕ) × (cell.state ≡ state.Loading ticket)
 
+-- how many loads a look began
+abbrev pub begun_by : Looked → ℕ
+begun_by (looked.Load ticket) = 1
+begun_by _ = 0
+
 -- the load of the ticket gave this identity, which expires at this moment
 abbrev pub done_at : Cache → List ℕ → ℕ → Identity → ℕ → Cache
 done_at cache id ticket identity expiry = with_cell cache id (after_end (cell_at cache id) ticket (state.Full ticket identity expiry) (event.Done ticket expiry))

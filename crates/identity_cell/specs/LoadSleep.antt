@@ -1,5 +1,6 @@
 -- What a load's sleep is asked, and what it leaves of the timers.
-use Rattle.std.specs.Prelude.{◌≡◌, ℕ, Bool, true, false, Option, Some, None}
+use Rattle.std.specs.Prelude.{◌≡◌, ℕ, Bool, true, false, Option, Some, None, List, ◌++◌, codes}
+use Rattle.std.specs.Fmt.{decimal}
 use Rattle.smithy_types.specs.declared.timers.TimersCall.{TimersCall}
 use Rattle.smithy_types.specs.declared.timers.TimersCall.TheVariants.{Ready, GiveUp}
 
@@ -18,3 +19,7 @@ module _ {T : Type 0} (relates : T → TimersCall → T → Type 0) where
   abbrev pub Waits : Option ℕ → Bool → T → T → Type 0
   Waits sleep false old new = AsksSleep sleep false old new
   Waits sleep true old new = (mid : T) × AsksSleep sleep true old mid × GivesUp sleep mid new
+
+-- why a load failed that took longer than so many nanoseconds
+abbrev pub timeout_text : ℕ → List ℕ
+timeout_text nanos = codes "identity resolver timed out after " ++ decimal nanos ++ codes " ns"

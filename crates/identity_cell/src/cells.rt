@@ -21,7 +21,8 @@ pub(crate) fn look_at(
 ) -> Result<Looked, OutOfMemory>
     ensures event { OnOk result (cell.new ≡ looked_at cell.old now) }
     ensures answer { IfOk result (AnswersLook cell.old now) }
-    ensures err { OnErr result ((cell.new ≡ cell.old) ⊎ (cell.new ≡ after_clear cell.old now false)) }
+    ensures err { OnErr result (
+        (cell.new ≡ cell.old) ⊎ (cell.new ≡ after_clear cell.old now false)) }
 {
     match cell.clear(alloc, now, &mut Clearing::new())? {
         Cleared::Value(identity) => Ok(Looked::Hit(identity)),
@@ -41,7 +42,8 @@ pub(crate) fn look_in(
     id: &SchemeId,
     now: u64,
 ) -> Result<Option<Looked>, OutOfMemory>
-    ensures ok { IfOk result (λ looked. LooksIn cells.old.entries id.now now looked cells.new.entries) }
+    ensures ok { IfOk result (λ looked.
+        LooksIn cells.old.entries id.now now looked cells.new.entries) }
     ensures err { OnErr result (StaysIn cells.old.entries id.now now cells.new.entries) }
 {
     match cells.get_mut(id) {

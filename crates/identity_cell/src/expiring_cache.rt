@@ -1,6 +1,14 @@
 //! A cell that callers on many threads share.
 ghost use Rattle.std.specs.Prelude.{◌≡◌, ◌||◌, IfOk, OnErr};
-ghost use Rattle.identity_cell.specs.Shared.{Answers, GivesUp, is_told_to_wait, MayHaveValue, Polled, LostCopy, IsCopyOf};
+ghost use Rattle.identity_cell.specs.Shared.{
+  Answers,
+  GivesUp,
+  is_told_to_wait,
+  MayHaveValue,
+  Polled,
+  LostCopy,
+  IsCopyOf,
+};
 
 use crate::{Begin, CacheAnswer, CellCore, Cleared, Clearing, Held, LoadPoll, Loading};
 use smithy_types::OutOfMemory;
@@ -49,7 +57,8 @@ impl<T: Clone + Drop, E: Drop> ExpiringCache<T, E> {
         load: F,
     ) -> Result<CacheAnswer<T, E>, OutOfMemory>
         requires { F.pre load }
-        ensures answer { IfOk result (λ answer. Answers T.is_clone (F.post load) state.old answer state.new) }
+        ensures answer { IfOk result (λ answer.
+            Answers T.is_clone (F.post load) state.old answer state.new) }
         ensures err { OnErr result (GivesUp (F.post load) state.old state.new) }
     {
         if let Held::Ticket(ticket) = state.held() {
@@ -68,9 +77,9 @@ impl<T: Clone + Drop, E: Drop> ExpiringCache<T, E> {
         }
     }
 
-    /// The value in the cell where it hasn't expired at this moment in nanoseconds. An expired value
-    /// is removed. A caller that was ever told to wait gets no value any more. An `Err` leaves the
-    /// cell and the caller as they were.
+    /// The value in the cell where it hasn't expired at this moment in nanoseconds. An expired
+    /// value is removed. A caller that was ever told to wait gets no value any more. An `Err`
+    /// leaves the cell and the caller as they were.
     pub fn yield_or_clear_if_expired(
         &self,
         rt: &impl Wait,
@@ -125,8 +134,8 @@ impl<T: Clone + Drop, E: Drop> ExpiringCache<T, E> {
         }
     }
 
-    // The load of this ticket gave a value, of which the caller gets a copy. Without memory for that
-    // the load has failed.
+    // The load of this ticket gave a value, of which the caller gets a copy. Without memory for
+    // that the load has failed.
     fn store(
         &self,
         rt: &impl Wait,

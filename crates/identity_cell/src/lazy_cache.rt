@@ -1,11 +1,43 @@
-//! A cache of identities, asked in the steps of a choice: look the identity up, start the sleep of a
-//! load, and keep, fail, time out or abandon what is loaded.
-ghost use Rattle.std.specs.Prelude.{◌≡◌, ◌++◌, ◌⊎◌, ◌↔◌, [], if◌then◌else◌, false, true, is_some, None, IfOk, IfErr, IfSome, IsSome, IsTrue, OnOk, OnErr, codes};
+//! A cache of identities, asked in the steps of a choice: look the identity up, start the sleep of
+//! a load, and keep, fail, time out or abandon what is loaded.
+ghost use Rattle.std.specs.Prelude.{
+  ◌≡◌,
+  ◌⊎◌,
+  ◌↔◌,
+  [],
+  if◌then◌else◌,
+  false,
+  true,
+  is_some,
+  None,
+  IfOk,
+  IfErr,
+  IfSome,
+  IsSome,
+  IsTrue,
+  OnOk,
+  OnErr,
+};
 ghost use Rattle.std.specs.Map.{lookup};
-ghost use Rattle.std.specs.Fmt.{decimal};
 ghost use Rattle.identity_cell.specs.Cell.{after_clear, empty_cell};
-ghost use Rattle.identity_cell.specs.LazyCache.{cache_of, is_id, cell_at, loads, with_cell, with_last, within_most, put, looked_at, AnswersLook, done_at, failed_at, dropped_at, expiry_by, timeout_by};
-ghost use Rattle.identity_cell.specs.LoadSleep.{GivesUp, AsksSleep, Waits};
+ghost use Rattle.identity_cell.specs.LazyCache.{
+  cache_of,
+  is_id,
+  cell_at,
+  loads,
+  with_cell,
+  with_last,
+  within_most,
+  put,
+  looked_at,
+  AnswersLook,
+  done_at,
+  failed_at,
+  dropped_at,
+  expiry_by,
+  timeout_by,
+};
+ghost use Rattle.identity_cell.specs.LoadSleep.{GivesUp, AsksSleep, Waits, timeout_text};
 ghost use Rattle.smithy_types.specs.declared.timers.TimersCall.{TimersCall};
 
 use crate::cells::{self, Cells};
@@ -54,7 +86,8 @@ impl LazyCache {
         self.terms
     }
 
-    /// How many loads were ever begun, those in cells that were given up too. It stops at `u64::MAX`.
+    /// How many loads were ever begun, those in cells that were given up too. It stops at
+    /// `u64::MAX`.
     pub fn loads(&self) -> u64
         ensures { result ≡ loads self.now }
     {
@@ -67,10 +100,12 @@ impl LazyCache {
     /// goes where there are too many. After an `Err` the cell is as it was, or it has answered that
     /// it has no identity.
     pub fn look(&mut self, alloc: Global, id: &SchemeId, now: u64) -> Result<Looked, OutOfMemory>
-        ensures event { OnOk result (self.new ≡ put self.old id.now (looked_at (cell_at self.old id.now) now)) }
+        ensures event { let cell = cell_at self.old id.now in
+            OnOk result (self.new ≡ put self.old id.now (looked_at cell now)) }
         ensures answer { IfOk result (AnswersLook (cell_at self.old id.now) now) }
         ensures buffer { (cell_at self.old id.now).buffer ≡ self.old.terms.buffer }
-        ensures err { OnErr result ((self.new ≡ self.old) ⊎ (self.new ≡ with_cell self.old id.now (after_clear (cell_at self.old id.now) now false))) }
+        ensures err { let cell = cell_at self.old id.now in OnErr result (
+            (self.new ≡ self.old) ⊎ (self.new ≡ with_cell self.old id.now (after_clear cell now false))) }
     {
         if let Some(looked) = cells::look_in(&mut self.cells, alloc, id, now)? {
             return Ok(looked);
@@ -81,7 +116,8 @@ impl LazyCache {
     // The same at a scheme without a cell.
     fn look_new(&mut self, alloc: Global, id: &SchemeId, now: u64) -> Result<Looked, OutOfMemory>
         requires { lookup (is_id id.now) self.old.cells ≡ None }
-        ensures event { OnOk result (self.new ≡ within_most (with_last self.old id.now (looked_at (empty_cell self.old.terms.buffer) now))) }
+        ensures event { let cell = looked_at (empty_cell self.old.terms.buffer) now in
+            OnOk result (self.new ≡ within_most (with_last self.old id.now cell)) }
         ensures answer { IfOk result (AnswersLook (empty_cell self.old.terms.buffer) now) }
         ensures err { OnErr result (self.new ≡ self.old) }
     {
@@ -126,12 +162,20 @@ impl LazyCache {
         asked_at: u64,
         settings: &Settings,
     ) -> Result<IdentityLoad, OutOfMemory>
-        ensures load { IfOk result (λ load. load ≡ record { id = id; ticket = ticket; asked_at = asked_at; timeout = timeout_by self.old.terms settings.now; sleep = load.sleep }) }
-        ensures started { IfOk result (λ load. T.relates timers.old (TimersCall.Start load.timeout (Ok load.sleep)) timers.new) }
+        ensures load { IfOk result (λ load. load ≡ record {
+          id = id;
+          ticket = ticket;
+          asked_at = asked_at;
+          timeout = timeout_by self.old.terms settings.now;
+          sleep = load.sleep;
+        }) }
+        ensures started { IfOk result (λ load.
+            T.relates timers.old (TimersCall.Start load.timeout (Ok load.sleep)) timers.new) }
         ensures sleep { IfOk result (λ load. IsSome load.sleep ↔ IsTrue (T.sleeps timers.old)) }
         ensures same_sleeps { T.sleeps timers.new ≡ T.sleeps timers.old }
         ensures ok { OnOk result (self.new ≡ self.old) }
-        ensures refused { IfErr result (λ error. T.relates timers.old (TimersCall.Start (timeout_by self.old.terms settings.now) (Err error)) timers.new) }
+        ensures refused { let timeout = timeout_by self.old.terms settings.now in
+            IfErr result (λ e. T.relates timers.old (TimersCall.Start timeout (Err e)) timers.new) }
         ensures err { OnErr result (self.new ≡ dropped_at self.old id ticket) }
     {
         let timeout = self.terms.timeout_in(settings);
@@ -150,20 +194,23 @@ impl LazyCache {
         }
     }
 
-    /// Asks the load's sleep, as is to be done where the resolver was asked and isn't done. Where it
-    /// is over, the load has failed, for the reason that is answered, and its sleep is given up.
-    /// Without memory for the reason the load stays open.
+    /// Asks the load's sleep, as is to be done where the resolver was asked and isn't done. Where
+    /// it is over, the load has failed, for the reason that is answered, and its sleep is given
+    /// up. Without memory for the reason the load stays open.
     pub fn wait<T: Timers>(
         &mut self,
         alloc: Global,
         timers: &mut T,
         load: &IdentityLoad,
     ) -> Result<Option<Text>, OutOfMemory>
-        ensures reason { IfOk result (λ reason. IfSome reason (λ t. t ≡ codes "identity resolver timed out after " ++ decimal load.now.timeout ++ codes " ns")) }
-        ensures asked { IfOk result (λ reason. Waits T.relates load.now.sleep (is_some reason) timers.old timers.new) }
+        ensures reason { IfOk result (λ reason. IfSome reason (λ t. t ≡ timeout_text load.now.timeout)) }
+        ensures asked { IfOk result (λ reason.
+            Waits T.relates load.now.sleep (is_some reason) timers.old timers.new) }
         ensures same_sleeps { T.sleeps timers.new ≡ T.sleeps timers.old }
-        ensures ok { IfOk result (λ reason. self.new ≡ (if is_some reason then failed_at self.old load.now.id load.now.ticket else self.old)) }
-        ensures err { OnErr result ((self.new ≡ self.old) × AsksSleep T.relates load.now.sleep true timers.old timers.new) }
+        ensures ok { let failed = failed_at self.old load.now.id load.now.ticket in
+            IfOk result (λ reason. self.new ≡ (if is_some reason then failed else self.old)) }
+        ensures err { OnErr result (self.new ≡ self.old) }
+        ensures asked_err { OnErr result (AsksSleep T.relates load.now.sleep true timers.old timers.new) }
     {
         if !load_sleep::is_over(timers, load.sleep) {
             return Ok(None);
@@ -184,7 +231,8 @@ impl LazyCache {
         word: u64,
     ) -> Result<Identity, OutOfMemory>
         ensures copy { IfOk result (λ copy. copy ≡ identity) }
-        ensures ok { OnOk result (self.new ≡ done_at self.old load.id load.ticket identity (expiry_by self.old.terms identity load.asked_at word)) }
+        ensures ok { let expiry = expiry_by self.old.terms identity load.asked_at word in
+            OnOk result (self.new ≡ done_at self.old load.id load.ticket identity expiry) }
         ensures err { OnErr result (self.new ≡ failed_at self.old load.id load.ticket) }
         ensures asked { GivesUp T.relates load.sleep timers.old timers.new }
         ensures same_sleeps { T.sleeps timers.new ≡ T.sleeps timers.old }

@@ -1,7 +1,6 @@
 //! The sleep of a load.
-ghost use Rattle.std.specs.Prelude.{◌≡◌, ◌++◌, IfOk, codes};
-ghost use Rattle.std.specs.Fmt.{decimal};
-ghost use Rattle.identity_cell.specs.LoadSleep.{GivesUp, AsksSleep};
+ghost use Rattle.std.specs.Prelude.{◌≡◌, IfOk};
+ghost use Rattle.identity_cell.specs.LoadSleep.{GivesUp, AsksSleep, timeout_text};
 
 use smithy_types::{OutOfMemory, Text, Timers};
 use std::alloc::Global;
@@ -29,7 +28,7 @@ pub(crate) fn is_over<T: Timers>(timers: &mut T, sleep: Option<u64>) -> bool
 
 /// Why a load failed that took longer than so many nanoseconds.
 pub(crate) fn timed_out(alloc: Global, nanos: u64) -> Result<Text, OutOfMemory>
-    ensures { IfOk result (λ t. t ≡ codes "identity resolver timed out after " ++ decimal nanos ++ codes " ns") }
+    ensures { IfOk result (λ t. t ≡ timeout_text nanos) }
 {
     let text = format!(in alloc; "identity resolver timed out after {nanos} ns")?;
     Text::from_string(text)
