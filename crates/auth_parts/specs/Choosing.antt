@@ -2,6 +2,7 @@
 use Rattle.std.specs.Prelude.{◌≡◌, ℕ, Bool, true, false, ◌&&◌, if◌then◌else◌, List, [], ◌∷◌, map, position, slice_get, slice_set, Option, None, Some}
 use Rattle.auth_endpoint.specs.Choice.{IsChosen, NoneChosen, is_id, lack_of, reprioritized, schemes_of}
 use Rattle.auth_endpoint.specs.Texts.{no_match_text}
+use Rattle.auth_endpoint.specs.declared.explored.ExploreResult.{ExploreResult}
 use Rattle.auth_endpoint.specs.declared.explored.ExploredList.{ExploredList}
 use Rattle.auth_endpoint.specs.declared.explored.NoMatchingAuthSchemeError.TheVariants.{Explored}
 use Rattle.outside.specs.Calls.{OutsideCall, DropResolve}
@@ -35,14 +36,15 @@ endpoint_before endpoint settings = if has_v2 settings then None else Some endpo
 
 -- ---- which option
 
--- the option that is chosen among those in the order of preference, or the text that says why none is
+-- the first option that lacks nothing, or the text that says what each lacks
+abbrev pub PicksAmong : (List ℕ → Option ExploreResult) → List (List ℕ) → Picked → Type 0
+PicksAmong lack ordered (Scheme id) = (place : ℕ) × IsChosen lack ordered place × (slice_get ordered place ≡ Some id)
+PicksAmong lack ordered (Refused text) = (explored : ExploredList) × NoneChosen lack ordered explored × (text ≡ no_match_text (Explored explored))
+
+-- that, among the options in the order of preference
 abbrev pub Picks : List (List ℕ) → List (List ℕ) → List (List ℕ) → Option Endpoint → StandingLayers → Picked → Type 0
-Picks schemes sources options endpoint settings (Scheme id) =
-    (place : ℕ) × IsChosen (lack_of schemes sources (schemes_of endpoint)) (reprioritized (standing_preference settings) options) place
-    × (slice_get (reprioritized (standing_preference settings) options) place ≡ Some id)
-Picks schemes sources options endpoint settings (Refused text) =
-    (explored : ExploredList) × NoneChosen (lack_of schemes sources (schemes_of endpoint)) (reprioritized (standing_preference settings) options) explored
-    × (text ≡ no_match_text (Explored explored))
+Picks schemes sources options endpoint settings picked =
+    PicksAmong (lack_of schemes sources (schemes_of endpoint)) (reprioritized (standing_preference settings) options) picked
 
 -- ---- whose identity
 

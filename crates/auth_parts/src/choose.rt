@@ -1,9 +1,10 @@
 //! Choose, without a cache of identities.
 ghost use Rattle.std.specs.Prelude.{◌≡◌, None, Some, IfOk, OnErr, MatchOption, map, position, option_copied};
-ghost use Rattle.auth_endpoint.specs.Choice.{is_id};
+ghost use Rattle.auth_endpoint.specs.Choice.{is_id, lack_of, reprioritized, schemes_of};
+ghost use Rattle.auth_parts.specs.Reading.{standing_preference};
 ghost use Rattle.auth_endpoint.specs.Texts.{no_match_text};
 ghost use Rattle.smithy_types.specs.Chain.{Chained};
-ghost use Rattle.auth_parts.specs.Choosing.{Asks, Chooses, Picks, Resolves, ending_load, endpoint_before, is_outside, is_pending, no_load};
+ghost use Rattle.auth_parts.specs.Choosing.{Asks, Chooses, Picks, PicksAmong, Resolves, ending_load, endpoint_before, is_outside, is_pending, no_load};
 
 use crate::reading::{has_v2, standing_preference};
 use crate::sources::{IdentitySource, RegisteredSource, ask_source, source_ids};
@@ -97,12 +98,43 @@ fn pick<A: AuthScheme, R: ResolveIdentity>(
 ) -> Result<Picked, OutOfMemory>
     ensures { IfOk result (λ p. Picks (map A.names schemes.now) (map (λ s. s.id) sources.now) options.now endpoint.now settings.now p) }
 {
-    let options = reprioritize(alloc, options.clone()?, standing_preference(settings));
+    let ordered = in_order(alloc, options, settings)?;
     let names = scheme_ids(alloc, schemes)?;
     let ids = source_ids(alloc, sources)?;
+    pick_among(alloc, &ordered, &names, &ids, endpoint)
+}
+
+// The options in the order of preference.
+fn in_order(
+    alloc: Global,
+    options: &List<Text>,
+    settings: &Settings,
+) -> Result<List<Text>, OutOfMemory>
+    ensures { IfOk result (λ l. l ≡ reprioritized (standing_preference settings.now) options.now) }
+{
+    let copy = copied(options)?;
+    Ok(reprioritize(alloc, copy, standing_preference(settings)))
+}
+
+fn copied(options: &List<Text>) -> Result<List<Text>, OutOfMemory>
+    ensures { IfOk result (λ copy. copy ≡ options.now) }
+{
+    Ok(options.clone()?)
+}
+
+// The first of these that qualifies, by its id, or why none does.
+fn pick_among(
+    alloc: Global,
+    ordered: &List<Text>,
+    names: &List<Text>,
+    ids: &List<Text>,
+    endpoint: &Option<Shared<Endpoint>>,
+) -> Result<Picked, OutOfMemory>
+    ensures { IfOk result (λ p. PicksAmong (lack_of names.now ids.now (schemes_of endpoint.now)) ordered.now p) }
+{
     let endpoint = endpoint.as_ref().map(|endpoint| endpoint.get());
-    match auth_endpoint::choose(alloc, &options, &names, &ids, endpoint) {
-        Ok(place) => Ok(Picked::Scheme(options.as_slice()[place.index].clone()?)),
+    match auth_endpoint::choose(alloc, ordered, names, ids, endpoint) {
+        Ok(place) => Ok(Picked::Scheme(ordered.as_slice()[place.index].clone()?)),
         Err(error) => refused(alloc, error),
     }
 }

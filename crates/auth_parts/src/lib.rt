@@ -14,4 +14,4 @@ pub mod sources;
 
 pub use deserializer::{DeserializeResponse, Deserializer};
 pub use serializer::{SerializeRequest, Serialized, Serializer};
-pub use sources::{IdentityResolver, IdentitySource, RegisteredSource};
+pub use sources::{IdentitySource, RegisteredSource};

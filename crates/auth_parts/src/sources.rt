@@ -1,49 +1,12 @@
 //! Where identities come from.
-ghost use Rattle.std.specs.Prelude.{◌≡◌, IfOk, OnErr, map};
+ghost use Rattle.std.specs.Prelude.{◌≡◌, IfOk, map};
 ghost use Rattle.smithy_types.specs.Chain.{Chained};
 ghost use Rattle.auth_parts.specs.Sourcing.{AsksSource};
 
-use identity_cell::{NoAuthIdentityResolver, ResolveIdentity};
+use identity_cell::ResolveIdentity;
 use outside::{IdentityPoll, Outside};
 use smithy_types::{List, OutOfMemory, Text};
 use std::alloc::Global;
-
-/// A resolver of identities: the crate's own, or one that a caller brings.
-#[derive(Drop)]
-pub enum IdentityResolver {
-    NoAuth(NoAuthIdentityResolver),
-    Boxed(Box<dyn ResolveIdentity>),
-}
-
-// One ask of a box.
-fn poll_box(
-    boxed: &mut Box<dyn ResolveIdentity>,
-    alloc: Global,
-) -> Result<IdentityPoll, OutOfMemory>
-    ensures ok { IfOk result (λ answer. (v : _) × (boxed.new ≡ record boxed.old { value = v }) × (ResolveIdentity-box boxed.old).polls boxed.old.value answer v) }
-    ensures err { OnErr result (boxed.new ≡ boxed.old) }
-{
-    let inner = boxed.as_mut();
-    inner.poll(alloc)
-}
-
-impl ResolveIdentity for IdentityResolver {
-    ghost use Rattle.std.specs.Prelude.{◌≡◌, [], None};
-    ghost use Rattle.outside.specs.declared.answers.IdentityPoll.TheVariants.{Ready};
-    ghost use Rattle.auth_parts.specs.declared.sources.IdentityResolver.TheVariants.{NoAuth, Boxed};
-
-    ghost polls = { λ old answer new. elim old [
-      | NoAuth n ↦ (answer ≡ Ready (record { content = []; expiration = None })) × (new ≡ NoAuth n)
-      | Boxed b ↦ (v : _) × (new ≡ Boxed (record b { value = v })) × (ResolveIdentity-box b).polls b.value answer v
-    ] };
-
-    fn poll(&mut self, alloc: Global) -> Result<IdentityPoll, OutOfMemory> {
-        match self {
-            IdentityResolver::NoAuth(resolver) => resolver.poll(alloc),
-            IdentityResolver::Boxed(boxed) => poll_box(boxed, alloc),
-        }
-    }
-}
 
 /// What gives a scheme's identity. R is a resolver of the program.
 #[derive(Drop)]
