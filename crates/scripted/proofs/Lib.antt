@@ -1,0 +1,2 @@
+pub mod DeterminedLemmas
+pub mod WakeLemmas
