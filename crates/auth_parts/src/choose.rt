@@ -132,11 +132,16 @@ fn pick_among(
 ) -> Result<Picked, OutOfMemory>
     ensures { IfOk result (λ p. PicksAmong (lack_of names.now ids.now (schemes_of endpoint.now)) ordered.now p) }
 {
-    let endpoint = endpoint.as_ref().map(|endpoint| endpoint.get());
-    match auth_endpoint::choose(alloc, ordered, names, ids, endpoint) {
+    match auth_endpoint::choose(alloc, ordered, names, ids, lent(endpoint)) {
         Ok(place) => Ok(Picked::Scheme(ordered.as_slice()[place.index].clone()?)),
         Err(error) => refused(alloc, error),
     }
+}
+
+fn lent(endpoint: &Option<Shared<Endpoint>>) -> Option<&Endpoint>
+    ensures { option_copied result ≡ endpoint.now }
+{
+    endpoint.as_ref().map(|endpoint| endpoint.get())
 }
 
 // The failure that says why no option was chosen.

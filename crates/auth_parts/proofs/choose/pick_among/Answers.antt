@@ -1,8 +1,5 @@
-use Rattle.auth_parts.proofs.PickedOnes.{refused_among, there}
+use Rattle.auth_parts.proofs.PickedOnes.{refused_among}
 use Rattle.auth_parts.proofs.choose.pick_among.Goals as goal
 
-pub returns-in-Ok : goal.returns-in-Ok
-returns-in-Ok g c = ?
-
-pub returns : goal.returns
-returns g c = ?
+pub returns-in-Err : goal.returns-in-Err
+returns-in-Err c = refused_among _ _ c.choose.result c.in-Err.error c.refused.result c.in-Err.is c.refused.ensures (rw c.lent.ensures at c.choose.ensures.refused)
