@@ -47,7 +47,7 @@ pub record Means (X Q P L C I A R Z D : Type 0) : Type 1 where
 
 module _ {X Q P L C I A R Z D : Type 0} (means : Means X Q P L C I A R Z D) where
   -- a question of this kind is answered so
-  abbrev pub Answers : Parts X Q C I A R Z D P → Question → Answer → Parts X Q C I A R Z D P → Type 0
+  abbrev pub Answers : Parts X Q C I A R Z D P L → Question → Answer → Parts X Q C I A R Z D P L → Type 0
   Answers old (questions.Configure stage settings) a new = Configures means.makes old stage a new
   Answers old (questions.Hook hook view) a new = RunsHook means.makes means.says means.quota means.chain old hook view a new
   Answers old (questions.Serialize input settings) a new = serializing.Serializes means.serializes old.given.serializer input settings a × (new ≡ old)
@@ -72,9 +72,9 @@ module _ {X Q P L C I A R Z D : Type 0} (means : Means X Q P L C I A R Z D) wher
   Answers old questions.Park a new = Parks means.makes old a new
 
   -- an entry is served
-  abbrev pub Serves : Parts X Q C I A R Z D P → Entry → Parts X Q C I A R Z D P → Type 0
+  abbrev pub Serves : Parts X Q C I A R Z D P L → Entry → Parts X Q C I A R Z D P L → Type 0
   Serves old e new = Answers old e.question e.answer new
 
   -- a list of entries is served
-  abbrev pub Served : Parts X Q C I A R Z D P → List Entry → Parts X Q C I A R Z D P → Type 0
+  abbrev pub Served : Parts X Q C I A R Z D P L → List Entry → Parts X Q C I A R Z D P L → Type 0
   Served = Chained Serves

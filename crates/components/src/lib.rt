@@ -4,6 +4,7 @@
 
 pub mod calling;
 pub mod choosing;
+pub mod laws;
 pub mod parts;
 pub mod resting;
 pub mod retrying;

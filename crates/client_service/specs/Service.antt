@@ -1,0 +1,42 @@
+-- The requests and responses of the program's service.
+use Rattle.std.specs.Prelude.{ℕ, Bool, ◌||◌, ◌==◌, nat_lt, if◌then◌else◌, List, [], ◌++◌, Option, None, Some, codes, bytes_eq}
+use Rattle.std.specs.Fmt.{decimal}
+use Rattle.smithy_types.specs.declared.fault.Outcome.{Outcome}
+use Rattle.smithy_types.specs.declared.fault.Outcome.TheVariants.{Output, Failed}
+use Rattle.smithy_types.specs.declared.fault.FaultKind.TheVariants.{Operation}
+use Rattle.smithy_types.specs.declared.http.Body.{Body}
+use Rattle.smithy_types.specs.declared.http.Body.TheVariants.{Bytes, Once, Taken}
+use Rattle.smithy_types.specs.declared.http.HttpRequest.{HttpRequest}
+use Rattle.smithy_types.specs.declared.http.HttpResponse.{HttpResponse}
+use Rattle.smithy_types.specs.declared.kinds.ErrorKind.{ErrorKind}
+use Rattle.smithy_types.specs.declared.kinds.ErrorKind.TheVariants.{ThrottlingError, TransientError, ServerError}
+use Rattle.smithy_types.specs.declared.payload.Payload.{Payload}
+
+-- an input is posted to the service's root
+abbrev pub posted : Payload → HttpRequest
+posted input = record { method = codes "POST"; uri = codes "/"; headers = []; body = Bytes input.bytes }
+
+abbrev pub body_bytes : Body → List ℕ
+body_bytes (Bytes bytes) = bytes
+body_bytes (Once bytes) = bytes
+body_bytes Taken = []
+
+abbrev pub is_output : ℕ → Bool
+is_output status = nat_lt status 400 || (status == 418)
+
+abbrev pub status_text : ℕ → List ℕ
+status_text status = codes "status " ++ decimal status
+
+-- a response below 400, and 418, is an output of kind 1, and any other an error of kind 2
+abbrev pub read_outcome : HttpResponse → Outcome
+read_outcome response =
+    if is_output response.status then Output (record { kind = 1; bytes = body_bytes response.body })
+    else Failed (record { kind = Operation (record { kind = 2; bytes = body_bytes response.body }); text = status_text response.status })
+
+-- the kind that an error's bytes name
+abbrev pub kind_of_error : List ℕ → Option ErrorKind
+kind_of_error bytes =
+    if bytes_eq bytes (codes "throttle") then Some ThrottlingError
+    else if bytes_eq bytes (codes "transient") then Some TransientError
+    else if bytes_eq bytes (codes "server") then Some ServerError
+    else None

@@ -1,0 +1,84 @@
+//! How a response becomes an output or an error.
+ghost use Rattle.std.specs.Prelude.{◌≡◌, IfOk};
+ghost use Rattle.client_service.specs.Service.{body_bytes, is_output, read_outcome, status_text};
+
+use auth_parts::DeserializeResponse;
+use smithy_context::Settings;
+use smithy_types::{
+    Blob, Body, Fault, FaultKind, HttpResponse, OutOfMemory, Outcome, Payload, Text,
+};
+use std::alloc::Global;
+
+/// The kind of an output's payload.
+const OUTPUT: u32 = 1;
+
+/// The kind of an error's payload.
+const ERROR: u32 = 2;
+
+/// Makes an output of a response below 400 and of 418, and the service's own error of any other.
+/// The body is the payload. It never streams.
+#[derive(Clone, Copy, Debug, PartialEq, Eq)]
+pub struct ServiceDeserializer;
+
+impl DeserializeResponse for ServiceDeserializer {
+    ghost use Rattle.std.specs.Prelude.{◌≡◌, None};
+    ghost use Rattle.client_service.specs.Service.{read_outcome};
+
+    ghost streams = { λ _ response settings outcome. outcome ≡ None };
+
+    ghost deserializes = { λ _ response settings outcome. outcome ≡ read_outcome response };
+
+    fn deserialize_streaming(
+        &self,
+        _alloc: Global,
+        _response: &HttpResponse,
+        _settings: &Settings,
+    ) -> Result<Option<Outcome>, OutOfMemory> {
+        Ok(None)
+    }
+
+    fn deserialize_nonstreaming(
+        &self,
+        alloc: Global,
+        response: &HttpResponse,
+        _settings: &Settings,
+    ) -> Result<Outcome, OutOfMemory> {
+        let bytes = body_bytes(&response.body)?;
+        if is_output(response.status) {
+            return Ok(Outcome::Output(Payload {
+                kind: OUTPUT,
+                bytes,
+            }));
+        }
+        Ok(Outcome::Failed(Fault {
+            kind: FaultKind::Operation(Payload { kind: ERROR, bytes }),
+            text: status_text(alloc, response.status)?,
+        }))
+    }
+}
+
+// The bytes of a body, none where they are gone.
+fn body_bytes(body: &Body) -> Result<Blob, OutOfMemory>
+    ensures { IfOk result (λ b. b ≡ body_bytes body.now) }
+{
+    match body {
+        Body::Bytes(bytes) => Ok(bytes.clone()?),
+        Body::Once(bytes) => Ok(bytes.clone()?),
+        Body::Taken => Ok(Blob::new()),
+    }
+}
+
+// Whether a response of this status is an output.
+fn is_output(status: u16) -> bool
+    ensures { result ≡ is_output status }
+{
+    status < 400 || status == 418
+}
+
+// What is said of a response that is an error.
+fn status_text(alloc: Global, status: u16) -> Result<Text, OutOfMemory>
+    ensures { IfOk result (λ t. t ≡ status_text status) }
+{
+    let text = format!(in alloc; "status {status}")?;
+    Text::from_string(text)
+}

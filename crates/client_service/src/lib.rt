@@ -1,0 +1,11 @@
+//! The service that the program's clients call: how its requests are made and signed, and how its
+//! responses are read.
+#![tactic(auto)]
+
+pub mod deserializer;
+pub mod error;
+pub mod serializer;
+
+pub use deserializer::ServiceDeserializer;
+pub use error::ServiceError;
+pub use serializer::ServiceSerializer;
