@@ -1,7 +1,11 @@
+pub mod CauseProofs
 pub mod ChainLemmas
+pub mod FaultProofs
 pub mod Fitting
 pub mod GuardLemmas
 pub mod ReadLemmas
 pub mod SendLemmas
 pub mod SleepLemmas
 pub mod UploadLemmas
+pub mod UploadProofs
+pub mod WholeReads

@@ -55,7 +55,7 @@ module _ {X : Type 0} (makes : X → OutsideCall → X → Type 0) (relates : X 
   watched options bytes whole start before after check old new answer x y z now w o b k by grace =
       let frame : whole_frame old.body.bytes ≡ whole_frame bytes = ap (λ (t : WholeBody). whole_frame t.bytes) (o ∙ w) in
       let n = noted bytes (at_whole_end new.body) start (options.check_window / 10) before after answer by.calls (ap at_whole_end by.these.polled.1) b k
-        (subst (λ r. FollowsNoted (at_whole_end new.body) r before answer after by.calls) (by.these.polled.0 ∙ ap Ok frame) by.these.follows) in
+      (subst (λ r. FollowsNoted (at_whole_end new.body) r before answer after by.calls) (by.these.polled.0 ∙ ap Ok frame) by.these.follows) in
       record {
         calls = map OfTimers (Now start ∷ by.calls);
         these = record {

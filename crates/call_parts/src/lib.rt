@@ -7,6 +7,7 @@ pub mod call;
 pub mod ending;
 pub mod gathered;
 pub mod guards;
+pub mod laws;
 pub mod load;
 pub mod park;
 pub mod protection;

@@ -81,7 +81,7 @@ fn watch<X: Outside>(
 ) -> Result<Option<Upload>, OutOfMemory>
     ensures { IfOk result (λ upload. ByCalls X.makes outside.old
         (WatchesMaybe (upload_options (upload_marked settings.now) (standing_stall settings.now))
-            request.now upload)
+        request.now upload)
         outside.new) }
 {
     match upload_options(settings) {
