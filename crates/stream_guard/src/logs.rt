@@ -451,4 +451,47 @@ mod tests {
         }
         Ok(())
     }
+
+    /// Two transfers with a gap of many bins between them.
+    fn far_apart<L: Ledger>(rt: &impl Abort, blank: Blank) -> Result<(), BuildError>
+        requires name { blank.name ≡ L.name }
+        requires parts { blank.parts ≡ L.parts }
+        requires some { 0 < blank.parts }
+    {
+        let mut steps = Steps::<L>::new(blank);
+        let mut logs = ThroughputLogs::new(1_000_000_000, 0)?;
+        logs.push_bytes_transferred_counted(0, 5, &mut steps);
+        logs.push_pending_counted(1, &mut steps);
+        logs.push_bytes_transferred_counted(1_000_000_000_000_000_000, 7, &mut steps);
+        assert_eq!(rt;
+            logs.report_counted(1_000_000_000_000_000_000, &mut steps),
+            ThroughputReport::Transferred(Throughput::new_bytes_per_second(7))
+        );
+        Ok(())
+    }
+
+    #[test]
+    fn behind_a_long_gap_nothing_is_left(rt: HostRuntime) -> Result<(), Fail> {
+        far_apart::<Brand>(&rt, Blank::new(1))?;
+        Ok(())
+    }
+
+    /// The byte sum of a report, where it has one.
+    fn byte_sum(report: ThroughputReport) -> Option<u64> {
+        match report {
+            ThroughputReport::Transferred(rate) => Some(rate.bytes_read),
+            _ => None,
+        }
+    }
+
+    #[test]
+    fn a_bin_that_goes_takes_its_bytes_along(rt: HostRuntime) -> Result<(), Fail> {
+        let mut logs = ThroughputLogs::new(1_000_000_000, 0)?;
+        logs.push_bytes_transferred(0, u64::MAX);
+        logs.push_bytes_transferred(100 * MILLI, 1);
+        logs.push_pending(900 * MILLI);
+        assert_eq!(rt; byte_sum(logs.report(999 * MILLI)), Some(u64::MAX));
+        assert_eq!(rt; byte_sum(logs.report(1050 * MILLI)), Some(1));
+        Ok(())
+    }
 }
