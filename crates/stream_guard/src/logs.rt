@@ -1,5 +1,27 @@
 //! What happened to a stream, by bins of time.
-ghost use Rattle.std.specs.Prelude.{◌≡◌, ◌+◌, ◌-◌, ◌*◌, ◌/◌, ◌<◌, ◌≤◌, ◌↔◌, ◌^◌, ◌∷◌, ◌++◌, [], true, not, length, List, Some, IsErr, IfErr, IfOk, drop};
+ghost use Rattle.std.specs.Prelude.{
+  ◌≡◌,
+  ◌+◌,
+  ◌-◌,
+  ◌*◌,
+  ◌/◌,
+  ◌<◌,
+  ◌≤◌,
+  ◌↔◌,
+  ◌^◌,
+  ◌∷◌,
+  ◌++◌,
+  [],
+  true,
+  not,
+  length,
+  List,
+  Some,
+  IsErr,
+  IfErr,
+  IfOk,
+  drop,
+};
 ghost use Rattle.stream_guard.specs.Bin.{no_polling, Shifted};
 ghost use Rattle.stream_guard.specs.Report.{own_bin};
 
@@ -29,13 +51,28 @@ impl Model for ThroughputLogs {
 
     ghost Value = { Log };
 
-    ghost view = { λ l. record { start = l.start; resolution = l.resolution; complete = l.stream_complete; latest = l.latest; early = l.early; bins = l.bins } };
+    ghost view = { λ l. record {
+      start = l.start;
+      resolution = l.resolution;
+      complete = l.stream_complete;
+      latest = l.latest;
+      early = l.early;
+      bins = l.bins;
+    } };
 
     ghost invariant = { λ l. (0 < l.resolution) × (10 * l.resolution < 2 ^ 64) };
 }
 
 impl ThroughputLogs {
-    ghost use Rattle.stream_guard.specs.Logs.{Log, empty_log, Keeps, SameSettings, CatchesUp, AddsEvent, shown};
+    ghost use Rattle.stream_guard.specs.Logs.{
+      Log,
+      empty_log,
+      Keeps,
+      SameSettings,
+      CatchesUp,
+      AddsEvent,
+      shown,
+    };
     ghost use Rattle.stream_guard.specs.Report.{Came, Pending, Transferred, Looked, report_of};
 
     /// A log that starts now and judges by a window of so many ns. A window below 10 ns is refused,
@@ -72,7 +109,8 @@ impl ThroughputLogs {
     /// The stream was polled, and had nothing.
     pub fn push_pending(&mut self, now: u64)
         ensures settings { SameSettings self.old self.new }
-        ensures kept { (came : List Came) → Keeps self.old came → Keeps self.new (came ++ Pending now ∷ []) }
+        ensures kept { (came : List Came) → Keeps self.old came
+            → Keeps self.new (came ++ Pending now ∷ []) }
     {
         self.catch_up(now);
         self.add(Bin::PENDING);
@@ -81,7 +119,8 @@ impl ThroughputLogs {
     /// The same, with a count of the pushes of bins.
     pub fn push_pending_counted<L: Ledger>(&mut self, now: u64, steps: &mut Steps<L>)
         ensures settings { SameSettings self.old self.new }
-        ensures kept { (came : List Came) → Keeps self.old came → Keeps self.new (came ++ Pending now ∷ []) }
+        ensures kept { (came : List Came) → Keeps self.old came
+            → Keeps self.new (came ++ Pending now ∷ []) }
         ensures cost { steps.new ≤ steps.old + 10 }
     {
         self.catch_up_counted(now, steps);
@@ -91,7 +130,8 @@ impl ThroughputLogs {
     /// The stream transferred so many bytes.
     pub fn push_bytes_transferred(&mut self, now: u64, bytes: u64)
         ensures settings { SameSettings self.old self.new }
-        ensures kept { (came : List Came) → Keeps self.old came → Keeps self.new (came ++ Transferred now bytes ∷ []) }
+        ensures kept { (came : List Came) → Keeps self.old came
+            → Keeps self.new (came ++ Transferred now bytes ∷ []) }
     {
         self.catch_up(now);
         self.add(Bin::transferred(bytes));
@@ -105,7 +145,8 @@ impl ThroughputLogs {
         steps: &mut Steps<L>,
     )
         ensures settings { SameSettings self.old self.new }
-        ensures kept { (came : List Came) → Keeps self.old came → Keeps self.new (came ++ Transferred now bytes ∷ []) }
+        ensures kept { (came : List Came) → Keeps self.old came
+            → Keeps self.new (came ++ Transferred now bytes ∷ []) }
         ensures cost { steps.new ≤ steps.old + 10 }
     {
         self.catch_up_counted(now, steps);
@@ -126,8 +167,10 @@ impl ThroughputLogs {
     /// What the last ten bins say now.
     pub fn report(&mut self, now: u64) -> ThroughputReport
         ensures settings { SameSettings self.old self.new }
-        ensures kept { (came : List Came) → Keeps self.old came → Keeps self.new (came ++ Looked now ∷ []) }
-        ensures report { (came : List Came) → Keeps self.old came → result ≡ report_of self.old.start self.old.resolution self.old.complete came now }
+        ensures kept { (came : List Came) → Keeps self.old came
+            → Keeps self.new (came ++ Looked now ∷ []) }
+        ensures report { (came : List Came) → Keeps self.old came
+            → result ≡ report_of self.old.start self.old.resolution self.old.complete came now }
     {
         self.catch_up(now);
         self.current_report()
@@ -136,8 +179,10 @@ impl ThroughputLogs {
     /// The same, with a count of the pushes of bins.
     pub fn report_counted<L: Ledger>(&mut self, now: u64, steps: &mut Steps<L>) -> ThroughputReport
         ensures settings { SameSettings self.old self.new }
-        ensures kept { (came : List Came) → Keeps self.old came → Keeps self.new (came ++ Looked now ∷ []) }
-        ensures report { (came : List Came) → Keeps self.old came → result ≡ report_of self.old.start self.old.resolution self.old.complete came now }
+        ensures kept { (came : List Came) → Keeps self.old came
+            → Keeps self.new (came ++ Looked now ∷ []) }
+        ensures report { (came : List Came) → Keeps self.old came
+            → result ≡ report_of self.old.start self.old.resolution self.old.complete came now }
         ensures cost { steps.new ≤ steps.old + 10 }
     {
         self.catch_up_counted(now, steps);
