@@ -1,5 +1,27 @@
 //! What happened to a stream, by bins of time.
-ghost use Rattle.std.specs.Prelude.{◌≡◌, ◌+◌, ◌-◌, ◌*◌, ◌/◌, ◌<◌, ◌≤◌, ◌↔◌, ◌^◌, ◌∷◌, ◌++◌, [], true, not, length, List, Some, IsErr, IfErr, IfOk, drop};
+ghost use Rattle.std.specs.Prelude.{
+  ◌≡◌,
+  ◌+◌,
+  ◌-◌,
+  ◌*◌,
+  ◌/◌,
+  ◌<◌,
+  ◌≤◌,
+  ◌↔◌,
+  ◌^◌,
+  ◌∷◌,
+  ◌++◌,
+  [],
+  true,
+  not,
+  length,
+  List,
+  Some,
+  IsErr,
+  IfErr,
+  IfOk,
+  drop,
+};
 ghost use Rattle.stream_guard.specs.Bin.{no_polling, Shifted};
 ghost use Rattle.stream_guard.specs.Report.{own_bin};
 
@@ -29,13 +51,28 @@ impl Model for ThroughputLogs {
 
     ghost Value = { Log };
 
-    ghost view = { λ l. record { start = l.start; resolution = l.resolution; complete = l.stream_complete; latest = l.latest; early = l.early; bins = l.bins } };
+    ghost view = { λ l. record {
+      start = l.start;
+      resolution = l.resolution;
+      complete = l.stream_complete;
+      latest = l.latest;
+      early = l.early;
+      bins = l.bins;
+    } };
 
     ghost invariant = { λ l. (0 < l.resolution) × (10 * l.resolution < 2 ^ 64) };
 }
 
 impl ThroughputLogs {
-    ghost use Rattle.stream_guard.specs.Logs.{Log, empty_log, Keeps, SameSettings, CatchesUp, AddsEvent, shown};
+    ghost use Rattle.stream_guard.specs.Logs.{
+      Log,
+      empty_log,
+      Keeps,
+      SameSettings,
+      CatchesUp,
+      AddsEvent,
+      shown,
+    };
     ghost use Rattle.stream_guard.specs.Report.{Came, Pending, Transferred, Looked, report_of};
 
     /// A log that starts now and judges by a window of so many ns. A window below 10 ns is refused,
@@ -72,7 +109,8 @@ impl ThroughputLogs {
     /// The stream was polled, and had nothing.
     pub fn push_pending(&mut self, now: u64)
         ensures settings { SameSettings self.old self.new }
-        ensures kept { (came : List Came) → Keeps self.old came → Keeps self.new (came ++ Pending now ∷ []) }
+        ensures kept { (came : List Came) → Keeps self.old came
+            → Keeps self.new (came ++ Pending now ∷ []) }
     {
         self.catch_up(now);
         self.add(Bin::PENDING);
@@ -81,7 +119,8 @@ impl ThroughputLogs {
     /// The same, with a count of the pushes of bins.
     pub fn push_pending_counted<L: Ledger>(&mut self, now: u64, steps: &mut Steps<L>)
         ensures settings { SameSettings self.old self.new }
-        ensures kept { (came : List Came) → Keeps self.old came → Keeps self.new (came ++ Pending now ∷ []) }
+        ensures kept { (came : List Came) → Keeps self.old came
+            → Keeps self.new (came ++ Pending now ∷ []) }
         ensures cost { steps.new ≤ steps.old + 10 }
     {
         self.catch_up_counted(now, steps);
@@ -91,7 +130,8 @@ impl ThroughputLogs {
     /// The stream transferred so many bytes.
     pub fn push_bytes_transferred(&mut self, now: u64, bytes: u64)
         ensures settings { SameSettings self.old self.new }
-        ensures kept { (came : List Came) → Keeps self.old came → Keeps self.new (came ++ Transferred now bytes ∷ []) }
+        ensures kept { (came : List Came) → Keeps self.old came
+            → Keeps self.new (came ++ Transferred now bytes ∷ []) }
     {
         self.catch_up(now);
         self.add(Bin::transferred(bytes));
@@ -105,7 +145,8 @@ impl ThroughputLogs {
         steps: &mut Steps<L>,
     )
         ensures settings { SameSettings self.old self.new }
-        ensures kept { (came : List Came) → Keeps self.old came → Keeps self.new (came ++ Transferred now bytes ∷ []) }
+        ensures kept { (came : List Came) → Keeps self.old came
+            → Keeps self.new (came ++ Transferred now bytes ∷ []) }
         ensures cost { steps.new ≤ steps.old + 10 }
     {
         self.catch_up_counted(now, steps);
@@ -126,8 +167,10 @@ impl ThroughputLogs {
     /// What the last ten bins say now.
     pub fn report(&mut self, now: u64) -> ThroughputReport
         ensures settings { SameSettings self.old self.new }
-        ensures kept { (came : List Came) → Keeps self.old came → Keeps self.new (came ++ Looked now ∷ []) }
-        ensures report { (came : List Came) → Keeps self.old came → result ≡ report_of self.old.start self.old.resolution self.old.complete came now }
+        ensures kept { (came : List Came) → Keeps self.old came
+            → Keeps self.new (came ++ Looked now ∷ []) }
+        ensures report { (came : List Came) → Keeps self.old came
+            → result ≡ report_of self.old.start self.old.resolution self.old.complete came now }
     {
         self.catch_up(now);
         self.current_report()
@@ -136,8 +179,10 @@ impl ThroughputLogs {
     /// The same, with a count of the pushes of bins.
     pub fn report_counted<L: Ledger>(&mut self, now: u64, steps: &mut Steps<L>) -> ThroughputReport
         ensures settings { SameSettings self.old self.new }
-        ensures kept { (came : List Came) → Keeps self.old came → Keeps self.new (came ++ Looked now ∷ []) }
-        ensures report { (came : List Came) → Keeps self.old came → result ≡ report_of self.old.start self.old.resolution self.old.complete came now }
+        ensures kept { (came : List Came) → Keeps self.old came
+            → Keeps self.new (came ++ Looked now ∷ []) }
+        ensures report { (came : List Came) → Keeps self.old came
+            → result ≡ report_of self.old.start self.old.resolution self.old.complete came now }
         ensures cost { steps.new ≤ steps.old + 10 }
     {
         self.catch_up_counted(now, steps);
@@ -449,6 +494,49 @@ mod tests {
             compare(&rt, &list, 1089)?;
             compare(&rt, &list, 1150)?;
         }
+        Ok(())
+    }
+
+    /// Two transfers with a gap of many bins between them.
+    fn far_apart<L: Ledger>(rt: &impl Abort, blank: Blank) -> Result<(), BuildError>
+        requires name { blank.name ≡ L.name }
+        requires parts { blank.parts ≡ L.parts }
+        requires some { 0 < blank.parts }
+    {
+        let mut steps = Steps::<L>::new(blank);
+        let mut logs = ThroughputLogs::new(1_000_000_000, 0)?;
+        logs.push_bytes_transferred_counted(0, 5, &mut steps);
+        logs.push_pending_counted(1, &mut steps);
+        logs.push_bytes_transferred_counted(1_000_000_000_000_000_000, 7, &mut steps);
+        assert_eq!(rt;
+            logs.report_counted(1_000_000_000_000_000_000, &mut steps),
+            ThroughputReport::Transferred(Throughput::new_bytes_per_second(7))
+        );
+        Ok(())
+    }
+
+    #[test]
+    fn behind_a_long_gap_nothing_is_left(rt: HostRuntime) -> Result<(), Fail> {
+        far_apart::<Brand>(&rt, Blank::new(1))?;
+        Ok(())
+    }
+
+    /// The byte sum of a report, where it has one.
+    fn byte_sum(report: ThroughputReport) -> Option<u64> {
+        match report {
+            ThroughputReport::Transferred(rate) => Some(rate.bytes_read),
+            _ => None,
+        }
+    }
+
+    #[test]
+    fn a_bin_that_goes_takes_its_bytes_along(rt: HostRuntime) -> Result<(), Fail> {
+        let mut logs = ThroughputLogs::new(1_000_000_000, 0)?;
+        logs.push_bytes_transferred(0, u64::MAX);
+        logs.push_bytes_transferred(100 * MILLI, 1);
+        logs.push_pending(900 * MILLI);
+        assert_eq!(rt; byte_sum(logs.report(999 * MILLI)), Some(u64::MAX));
+        assert_eq!(rt; byte_sum(logs.report(1050 * MILLI)), Some(1));
         Ok(())
     }
 }

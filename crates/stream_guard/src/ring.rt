@@ -1,5 +1,20 @@
 //! The last ten bins in a ring.
-ghost use Rattle.std.specs.Prelude.{◌≡◌, ℕ, ◌+◌, ◌*◌, ◌^◌, ◌<◌, ◌≤◌, ◌++◌, ◌∷◌, [], length, drop, replicate, slice_set};
+ghost use Rattle.std.specs.Prelude.{
+  ◌≡◌,
+  ℕ,
+  ◌+◌,
+  ◌*◌,
+  ◌^◌,
+  ◌<◌,
+  ◌≤◌,
+  ◌++◌,
+  ◌∷◌,
+  [],
+  length,
+  drop,
+  replicate,
+  slice_set,
+};
 ghost use Rattle.stream_guard.specs.Bin.{Shifted, back, merged, no_polling};
 ghost use Rattle.stream_guard.specs.Judged.{judged_bins};
 ghost use Rattle.stream_guard.specs.Ring.{IsRing};
@@ -59,7 +74,12 @@ impl BinRing {
         ensures counted { steps.new ≡ steps.old + 1 }
     {
         steps.tick();
-        put(&mut self.slots, &mut self.totals, self.head, Bin::NO_POLLING);
+        put(
+            &mut self.slots,
+            &mut self.totals,
+            self.head,
+            Bin::NO_POLLING,
+        );
         self.head = (self.head + 1) % BIN_COUNT;
     }
 
