@@ -25,7 +25,7 @@ is_some_by : {X : Type 0} (o : Option X) (x : X) → o ≡ Some x → IsSome o
 is_some_by None x e = search rules
 is_some_by (Some y) x e = search rules
 
-refused_all : (lack : List ℕ → Option ExploreResult) (options : List (List ℕ)) (all : List ExploredAuthOption) → AllZip (λ o refused. (refused.scheme_id ≡ o) × (lack o ≡ Some refused.result)) options all → All (λ o. IsSome (lack o)) options
+pub refused_all : (lack : List ℕ → Option ExploreResult) (options : List (List ℕ)) (all : List ExploredAuthOption) → AllZip (λ o refused. (refused.scheme_id ≡ o) × (lack o ≡ Some refused.result)) options all → All (λ o. IsSome (lack o)) options
 refused_all lack [] [] h = All-nil (λ o. IsSome (lack o))
 refused_all lack [] (r ∷ all) h = absurd h
 refused_all lack (o ∷ options) [] h = absurd h

@@ -6,6 +6,7 @@ pub mod choice;
 pub mod endpoint_error;
 pub mod explored;
 mod headers;
+pub mod laws;
 pub mod no_auth;
 pub mod no_match;
 pub mod options;
