@@ -157,3 +157,6 @@ impl<T: Clone + Drop, E: Drop> ExpiringCache<T, E> {
         }
     }
 }
+
+#[cfg(test)]
+mod tests;

@@ -195,3 +195,6 @@ impl Default for LazyCacheBuilder {
         LazyCacheBuilder::new()
     }
 }
+
+#[cfg(test)]
+mod tests;

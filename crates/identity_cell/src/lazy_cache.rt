@@ -105,7 +105,8 @@ impl LazyCache {
         ensures answer { IfOk result (AnswersLook (cell_at self.old id.now) now) }
         ensures buffer { (cell_at self.old id.now).buffer ≡ self.old.terms.buffer }
         ensures err { let cell = cell_at self.old id.now in OnErr result (
-            (self.new ≡ self.old) ⊎ (self.new ≡ with_cell self.old id.now (after_clear cell now false))) }
+            (self.new ≡ self.old)
+            ⊎ (self.new ≡ with_cell self.old id.now (after_clear cell now false))) }
     {
         if let Some(looked) = cells::look_in(&mut self.cells, alloc, id, now)? {
             return Ok(looked);
@@ -203,14 +204,16 @@ impl LazyCache {
         timers: &mut T,
         load: &IdentityLoad,
     ) -> Result<Option<Text>, OutOfMemory>
-        ensures reason { IfOk result (λ reason. IfSome reason (λ t. t ≡ timeout_text load.now.timeout)) }
+        ensures reason { IfOk result (λ reason.
+            IfSome reason (λ t. t ≡ timeout_text load.now.timeout)) }
         ensures asked { IfOk result (λ reason.
             Waits T.relates load.now.sleep (is_some reason) timers.old timers.new) }
         ensures same_sleeps { T.sleeps timers.new ≡ T.sleeps timers.old }
         ensures ok { let failed = failed_at self.old load.now.id load.now.ticket in
             IfOk result (λ reason. self.new ≡ (if is_some reason then failed else self.old)) }
         ensures err { OnErr result (self.new ≡ self.old) }
-        ensures asked_err { OnErr result (AsksSleep T.relates load.now.sleep true timers.old timers.new) }
+        ensures asked_err { OnErr result (
+            AsksSleep T.relates load.now.sleep true timers.old timers.new) }
     {
         if !load_sleep::is_over(timers, load.sleep) {
             return Ok(None);
@@ -300,3 +303,6 @@ impl LazyCache {
         }
     }
 }
+
+#[cfg(test)]
+mod tests;
