@@ -56,11 +56,11 @@ impl ProvideErrorKind for ServiceError {
 fn kind_of_error(bytes: &[u8]) -> Option<ErrorKind>
     ensures { result ≡ kind_of_error bytes.now }
 {
-    if bytes == b"throttle" {
+    if bytes == b"throttle".as_slice() {
         Some(ErrorKind::ThrottlingError)
-    } else if bytes == b"transient" {
+    } else if bytes == b"transient".as_slice() {
         Some(ErrorKind::TransientError)
-    } else if bytes == b"server" {
+    } else if bytes == b"server".as_slice() {
         Some(ErrorKind::ServerError)
     } else {
         None

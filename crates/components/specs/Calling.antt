@@ -32,9 +32,9 @@ module _ {X Q C I A R Z D P L : Type 0} (makes : X → OutsideCall → X → Typ
       ByCalls makes old.outside (sleeping.Waits (sleeping.sleep_of role old.sleeps) a) new.outside
       × (new ≡ record old { outside = new.outside })
 
-  abbrev pub Transmits : Parts X Q C I A R Z D P L → StandingLayers → Option HttpRequest → Answer → Parts X Q C I A R Z D P L → Type 0
-  Transmits old settings request a new =
-      ByCalls makes old.outside (transmitting.Transmits settings request old.call a new.call) new.outside
+  abbrev pub Transmits : (X → Bool) → Parts X Q C I A R Z D P L → StandingLayers → Option HttpRequest → Answer → Parts X Q C I A R Z D P L → Type 0
+  Transmits sleeps old settings request a new =
+      ByCalls makes old.outside (transmitting.Transmits (sleeps old.outside) settings request old.call a new.call) new.outside
       × (new ≡ record old { call = new.call; outside = new.outside })
 
   abbrev pub Reads : (X → Bool) → Parts X Q C I A R Z D P L → StandingLayers → Option HttpResponse → Answer → Parts X Q C I A R Z D P L → Type 0

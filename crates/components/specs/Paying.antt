@@ -26,9 +26,9 @@ pub record IsPaid (settings : StandingLayers) (attempt : ℕ) (note : DecideNote
 
 -- a choice for a further attempt is a delay that is paid for
 abbrev pub PaysFor : StandingLayers → ℕ → Choice → Option DecideNote → Type 0
-PaysFor settings attempt No note = Unit {0}
-PaysFor settings attempt (NoAfter nanos) note = Unit {0}
-PaysFor settings attempt Yes note = ⊥
+PaysFor settings attempt No noted = Unit {0}
+PaysFor settings attempt (NoAfter nanos) noted = Unit {0}
+PaysFor settings attempt Yes noted = ⊥
 PaysFor settings attempt (Delay nanos) None = ⊥
 PaysFor settings attempt (Delay nanos) (Some note) = IsPaid settings attempt note
 

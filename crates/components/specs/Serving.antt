@@ -60,7 +60,7 @@ module _ {X Q P L C I A R Z D : Type 0} (means : Means X Q P L C I A R Z D) wher
   Answers old (questions.Apply settings request endpoint) a new = Applies request endpoint settings a × (new ≡ old)
   Answers old (questions.Sign settings request scheme identity endpoint) a new =
       signing.Signs means.names means.signs old.given.schemes.items request scheme identity endpoint a × (new ≡ old)
-  Answers old (questions.Transmit settings request) a new = Transmits means.makes old settings request a new
+  Answers old (questions.Transmit settings request) a new = Transmits means.makes means.sleeps old settings request a new
   Answers old (questions.Stream settings response) a new =
       deserializing.Streams means.streams old.given.deserializer old.given.may_stream response settings a × (new ≡ old)
   Answers old (questions.Body settings response) a new = Reads means.makes means.sleeps old settings response a new

@@ -64,7 +64,7 @@ impl<
         settings: &Settings,
         request: &Option<Shared<HttpRequest>>,
     ) -> Result<Answer, OutOfMemory>
-        ensures { IfOk result (λ a. Transmits X.makes self.old settings.now request.now a self.new) }
+        ensures { IfOk result (λ a. Transmits X.makes X.sleeps self.old settings.now request.now a self.new) }
     {
         transmit(alloc, settings, request, &mut self.call, &mut self.outside)
     }
