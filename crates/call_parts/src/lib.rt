@@ -24,3 +24,6 @@ pub use reading::{Reading, Stop};
 pub use sleeping::Sleeps;
 pub use upload::Upload;
 pub use whole_body::WholeBody;
+
+#[cfg(test)]
+mod tests;
