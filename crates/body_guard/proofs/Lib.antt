@@ -1,3 +1,4 @@
 pub mod EventLemmas
 pub mod LengthLemmas
+pub mod RunLemmas
 pub mod UploadLemmas

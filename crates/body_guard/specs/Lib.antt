@@ -6,5 +6,6 @@ pub mod Grace
 pub mod Length
 pub mod Protection
 pub mod Rates
+pub mod Runs
 pub mod Texts
 pub mod Upload

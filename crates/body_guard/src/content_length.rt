@@ -23,7 +23,8 @@ pub struct ContentLengthError {
 impl ContentLengthError {
     /// The failure of the body.
     fn fault(&self, alloc: Global) -> Result<Fault, OutOfMemory>
-        ensures { IfOk result (λ f. f ≡ response_fault (length_text self.now.expected self.now.received)) }
+        ensures { IfOk result (λ f.
+            f ≡ response_fault (length_text self.now.expected self.now.received)) }
     {
         let text = format!(in alloc; "{self}")?;
         Ok(response_fault(Text::from_string(text)?))
@@ -38,7 +39,8 @@ impl fmt::Display for ContentLengthError {
     ghost output = { λ e. Some (length_text e.expected e.received) };
 
     fn fmt<W: fmt::Write>(&self, f: &mut fmt::Formatter<W>) -> fmt::Result {
-        write!(f,
+        write!(
+            f,
             "Invalid Content-Length: Expected {} bytes but {} bytes were received",
             self.expected, self.received
         )
@@ -59,7 +61,11 @@ pub struct ContentLengthEnforcingBody<B> {
 impl<B: PolledBody> ContentLengthEnforcingBody<B> {
     /// A body that has to have so many bytes from here on.
     pub fn wrap(body: B, declared: u64) -> ContentLengthEnforcingBody<B>
-        ensures wrapped { result ≡ record { body = body; expected_length = declared; bytes_received = 0 } }
+        ensures wrapped { result ≡ record {
+          body = body;
+          expected_length = declared;
+          bytes_received = 0;
+        } }
         ensures received { HasReceived result 0 }
     {
         ContentLengthEnforcingBody {
@@ -83,7 +89,8 @@ impl<B: PolledBody> ContentLengthEnforcingBody<B> {
 
     // What becomes of the inner body's end.
     fn end(&self, alloc: Global) -> Result<Polled, OutOfMemory>
-        ensures { (count : ℕ) → HasReceived self.now count → IfOk result (λ a. a ≡ at_length_end self.now.expected_length count) }
+        ensures { (count : ℕ) → HasReceived self.now count
+            → IfOk result (λ a. a ≡ at_length_end self.now.expected_length count) }
     {
         if self.bytes_received == u128::from(self.expected_length) {
             return Ok(Polled::End);

@@ -40,8 +40,8 @@ impl<B: PolledBody> MinimumThroughputDownloadBody<B> {
         }
     }
 
-    /// The next frame, or that there is none or that the body stalls. After want of memory the event
-    /// and the look that were made stand.
+    /// The next frame, or that there is none or that the body stalls. After want of memory the
+    /// event and the look that were made stand.
     pub fn poll_frame<T: Timers>(
         &mut self,
         alloc: Global,
@@ -77,8 +77,11 @@ impl<B: PolledBody> MinimumThroughputDownloadBody<B> {
 
     /// Gives the sleep of a violation up, where one is open.
     pub fn stop<T: Timers>(&mut self, timers: &mut T)
-        ensures stopped { self.new ≡ record self.old { grace = record self.old.grace { sleep = None } } }
-        ensures calls { Chained T.relates timers.old (give_up_calls self.old.grace.sleep) timers.new }
+        ensures stopped { self.new ≡ record self.old {
+          grace = record self.old.grace { sleep = None };
+        } }
+        ensures calls { Chained T.relates timers.old
+            (give_up_calls self.old.grace.sleep) timers.new }
     {
         self.grace.stop(timers);
     }
@@ -99,10 +102,7 @@ impl<B: PolledBody> MinimumThroughputDownloadBody<B> {
 }
 
 // What is answered in place of the inner body's answer, or that answer.
-fn passed(
-    inner: Polled,
-    said: Result<GraceAnswer, OutOfMemory>,
-) -> Result<Polled, OutOfMemory>
+fn passed(inner: Polled, said: Result<GraceAnswer, OutOfMemory>) -> Result<Polled, OutOfMemory>
     ensures { result ≡ passed inner said }
 {
     match said {

@@ -20,7 +20,8 @@ impl Intercept for EnforceContentLengthInterceptor {
 
     ghost hooks = { λ _ hook. is_read_before_transmit hook };
 
-    ghost runs = { λ old hook view answer new. (new ≡ old) × (answer ≡ enforcing_answer hook view) };
+    ghost runs = { λ old hook view answer new.
+        (new ≡ old) × (answer ≡ enforcing_answer hook view) };
 
     fn name(&self) -> &str {
         "EnforceContentLength"

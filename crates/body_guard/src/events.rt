@@ -10,7 +10,8 @@ use stream_guard::{ThroughputLogs, ThroughputReport};
 /// Adds the event of an answer, where it is one: bytes, or nothing yet.
 pub(crate) fn push_event(logs: &mut ThroughputLogs, now: u64, answer: &Polled)
     ensures settings { SameSettings logs.old logs.new }
-    ensures kept { (came : List Came) → Keeps logs.old came → Keeps logs.new (with_event came now answer.now) }
+    ensures kept { (came : List Came) → Keeps logs.old came
+        → Keeps logs.new (with_event came now answer.now) }
 {
     match answer {
         Polled::Data(bytes) => logs.push_bytes_transferred(now, bytes.len() as u64),

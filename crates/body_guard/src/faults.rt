@@ -35,7 +35,8 @@ impl fmt::Display for ThroughputBelowMinimum {
     ghost output = { λ e. Some (below_text e.expected e.actual) };
 
     fn fmt<W: fmt::Write>(&self, f: &mut fmt::Formatter<W>) -> fmt::Result {
-        write!(f,
+        write!(
+            f,
             "minimum throughput was specified at {}, but throughput of {} was observed",
             self.expected, self.actual
         )

@@ -1,7 +1,14 @@
 //! How long a stream may be too slow.
 ghost use Rattle.std.specs.Prelude.{◌≡◌, None, Some, Ok};
 ghost use Rattle.smithy_types.specs.Chain.{ByCalls, Chained};
-ghost use Rattle.body_guard.specs.Grace.{AsksSleep, Grants, Opens, Violates, give_up_calls, opening};
+ghost use Rattle.body_guard.specs.Grace.{
+  AsksSleep,
+  Grants,
+  Opens,
+  Violates,
+  give_up_calls,
+  opening,
+};
 ghost use Rattle.body_guard.specs.Rates.{violation};
 
 use crate::ThroughputBelowMinimum;
@@ -58,7 +65,8 @@ impl Grace {
         rate: Option<Throughput>,
     ) -> Result<GraceAnswer, OutOfMemory>
         ensures { ByCalls T.relates timers.old (Grants (T.sleeps timers.old)
-            (violation self.old.options.minimum_throughput rate) self.old result self.new) timers.new }
+            (violation self.old.options.minimum_throughput rate)
+            self.old result self.new) timers.new }
     {
         match violation(self.options.minimum_throughput(), rate) {
             None => {

@@ -8,6 +8,7 @@ pub mod enforce_length;
 mod events;
 pub mod faults;
 pub mod grace;
+pub mod laws;
 pub mod length;
 pub mod polled;
 mod rates;

@@ -17,7 +17,9 @@ ghost use Rattle.body_guard.specs.Protection.{
 
 use smithy_base::Intercept;
 use smithy_context::{HookAnswer, HookView, Layer, Setting, SettingKey, Settings};
-use smithy_types::{Body, Hook, HttpRequest, OutOfMemory, Shared, StalledStreamProtectionConfig, Text};
+use smithy_types::{
+    Body, Hook, HttpRequest, OutOfMemory, Shared, StalledStreamProtectionConfig, Text,
+};
 use std::alloc::Global;
 
 /// Which streams are protected. The interceptor goes by the setting Stall, and not by this.
@@ -75,13 +77,18 @@ impl Default for StalledStreamProtectionInterceptor {
 
 impl Intercept for StalledStreamProtectionInterceptor {
     ghost use Rattle.std.specs.Prelude.{◌≡◌, ◌||◌, codes};
-    ghost use Rattle.body_guard.specs.Protection.{is_before_deserialization, is_before_transmit, protection_answer};
+    ghost use Rattle.body_guard.specs.Protection.{
+      is_before_deserialization,
+      is_before_transmit,
+      protection_answer,
+    };
 
     ghost names = { λ _. codes "StalledStreamProtectionInterceptor" };
 
     ghost hooks = { λ _ hook. is_before_transmit hook || is_before_deserialization hook };
 
-    ghost runs = { λ old hook view answer new. (new ≡ old) × (answer ≡ protection_answer hook old.sleep old.time view) };
+    ghost runs = { λ old hook view answer new.
+        (new ≡ old) × (answer ≡ protection_answer hook old.sleep old.time view) };
 
     fn name(&self) -> &str {
         "StalledStreamProtectionInterceptor"

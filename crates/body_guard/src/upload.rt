@@ -53,7 +53,8 @@ impl<B: PolledBody> ThroughputReadingBody<B> {
         upload: &mut UploadThroughput,
     ) -> Result<Polled, OutOfMemory>
         ensures { ByCalls T.relates timers.old
-            (PollsNoted B.polls B.at_end self.old upload.old result self.new upload.new) timers.new }
+            (PollsNoted B.polls B.at_end self.old upload.old result self.new upload.new)
+            timers.new }
     {
         match self.body.poll_frame(alloc) {
             Ok(inner) => {
@@ -82,7 +83,8 @@ impl<B: PolledBody> ThroughputReadingBody<B> {
 
 // Notes an answer of a body that says whether it is at its end.
 fn note<T: Timers>(timers: &mut T, upload: &mut UploadThroughput, at_end: bool, answer: &Polled)
-    ensures { ByCalls T.relates timers.old (Notes at_end upload.old answer.now upload.new) timers.new }
+    ensures { ByCalls T.relates timers.old
+        (Notes at_end upload.old answer.now upload.new) timers.new }
 {
     note_event(timers, upload, answer);
     note_end(upload, completes(at_end, answer));
@@ -90,7 +92,8 @@ fn note<T: Timers>(timers: &mut T, upload: &mut UploadThroughput, at_end: bool, 
 
 // Notes the event of an answer, where it is one.
 fn note_event<T: Timers>(timers: &mut T, upload: &mut UploadThroughput, answer: &Polled)
-    ensures { ByCalls T.relates timers.old (NotesEvent upload.old answer.now upload.new) timers.new }
+    ensures { ByCalls T.relates timers.old
+        (NotesEvent upload.old answer.now upload.new) timers.new }
 {
     if !is_event(answer) {
         return;
@@ -146,8 +149,8 @@ impl UploadThroughputCheck {
         }
     }
 
-    /// Looks at the upload. It is asked only after the connector was pending. A failure says that the
-    /// upload stalls. After want of memory the look that was made stands.
+    /// Looks at the upload. It is asked only after the connector was pending. A failure says that
+    /// the upload stalls. After want of memory the look that was made stands.
     pub fn check<T: Timers>(
         &mut self,
         alloc: Global,
@@ -155,7 +158,8 @@ impl UploadThroughputCheck {
         upload: &mut UploadThroughput,
     ) -> Result<Option<Fault>, OutOfMemory>
         ensures { ByCalls T.relates timers.old
-            (Checks (T.sleeps timers.old) self.old upload.old result self.new upload.new) timers.new }
+            (Checks (T.sleeps timers.old) self.old upload.old result self.new upload.new)
+            timers.new }
     {
         let now = timers.now();
         let report = upload.report(now);
@@ -165,9 +169,7 @@ impl UploadThroughputCheck {
 }
 
 // What is answered of an upload.
-fn upload_answer(
-    said: Result<GraceAnswer, OutOfMemory>,
-) -> Result<Option<Fault>, OutOfMemory>
+fn upload_answer(said: Result<GraceAnswer, OutOfMemory>) -> Result<Option<Fault>, OutOfMemory>
     ensures { result ≡ upload_answer said }
 {
     match said {
@@ -222,7 +224,8 @@ impl MaybeUploadThroughputCheck {
         upload: &mut UploadThroughput,
     ) -> Result<Option<Fault>, OutOfMemory>
         ensures { ByCalls T.relates timers.old
-            (ChecksMaybe (T.sleeps timers.old) self.old upload.old result self.new upload.new) timers.new }
+            (ChecksMaybe (T.sleeps timers.old) self.old upload.old result self.new upload.new)
+            timers.new }
     {
         match self {
             MaybeUploadThroughputCheck::Checked(check) => check.check(alloc, timers, upload),
