@@ -21,3 +21,6 @@ pub use records::{
 pub use scripted_outside::ScriptedOutside;
 pub use sleeps::Sleeps;
 pub use words::Words;
+
+#[cfg(test)]
+mod tests;
