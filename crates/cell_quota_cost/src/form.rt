@@ -11,7 +11,7 @@ pub enum Form {
     Cell,
     /// Behind a lock, with a handle for each caller.
     Shared,
-    /// In one thread.
+    /// In a registry of one caller, in one thread.
     Plain,
 }
 

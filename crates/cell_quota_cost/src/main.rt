@@ -2,12 +2,14 @@
 //!
 //! The words are the form of the bucket, `cell`, `shared` or `plain`, the number of callers and the
 //! rounds of each. A round is two steps: an acquire, and then a release, or a reward where the
-//! acquire was refused. `plain` is one bucket in one thread.
+//! acquire was refused. `plain` is a caller with a bucket of
+//! its own, in one thread.
 #![tactic(auto)]
 
 mod form;
 mod in_cell;
 mod locked;
+mod plain;
 mod rounds;
 
 use crate::form::{Form, Load};
@@ -22,7 +24,7 @@ fn main(rt: HostRuntime) -> Result<()> {
     let (sums, steps) = match load.form {
         Form::Cell => in_cell::spend(&rt, rt.alloc(), bucket, load)?,
         Form::Shared => locked::spend(&rt, rt.alloc(), bucket, load)?,
-        Form::Plain => rounds::spend(bucket, load.rounds),
+        Form::Plain => plain::spend(rt.alloc(), bucket, load)?,
     };
     let Sums {
         granted,

@@ -1,12 +1,13 @@
-//! What a caller does: so many rounds at bucket 0.
+//! What a caller does: so many rounds at bucket 0 of its quota.
 ghost use Rattle.std.specs.Prelude.{IsTrue};
 
-use retry_quota::{Quota, Sums, TokenBucket};
+use retry_quota::Quota;
 use smithy_types::ErrorKind;
 
-/// Makes so many rounds through a quota.
+/// Makes so many rounds.
 pub fn pay<Q: Quota>(quota: &mut Q, rounds: u32)
     requires { IsTrue ((Q.meaning quota.old).has 0) }
+    ensures { IsTrue ((Q.meaning quota.new).has 0) }
 {
     for _ in 0..rounds {
         match quota.acquire(0, ErrorKind::ServerError, 0) {
@@ -14,19 +15,4 @@ pub fn pay<Q: Quota>(quota: &mut Q, rounds: u32)
             None => quota.reward_success(0),
         }
     }
-}
-
-/// Makes so many rounds at a bucket in this thread, and answers its sums and the number of steps.
-pub fn spend(mut bucket: TokenBucket, rounds: u32) -> (Sums, u64) {
-    for _ in 0..rounds {
-        match bucket.acquire(ErrorKind::ServerError, 0) {
-            Some(permit) => {
-                if permit.amount as u64 <= bucket.sums().held {
-                    bucket.release(permit);
-                }
-            }
-            None => bucket.reward_success(),
-        }
-    }
-    (bucket.sums(), rounds as u64 * 2)
 }
