@@ -217,7 +217,9 @@ pub(crate) fn ask_registered<X: Outside, R: ResolveIdentity>(
 fn place_of<R: ResolveIdentity>(sources: &[RegisteredSource<R>], id: &Text) -> Option<usize>
     ensures { result ≡ position (λ s. is_id id.now s.id) sources.now }
 {
-    sources.iter().position(|registered| registered.id.as_str() == id.as_str())
+    sources
+        .iter()
+        .position(|registered| registered.id.as_str() == id.as_str())
 }
 
 fn is_outside<R: ResolveIdentity>(source: &IdentitySource<R>) -> bool

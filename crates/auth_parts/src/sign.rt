@@ -32,7 +32,14 @@ pub fn sign<A: AuthScheme>(
     let Some(endpoint) = endpoint else {
         return Ok(Answer::Absent);
     };
-    sign_by(alloc, schemes, id, request.get(), identity.get(), endpoint.get())
+    sign_by(
+        alloc,
+        schemes,
+        id,
+        request.get(),
+        identity.get(),
+        endpoint.get(),
+    )
 }
 
 fn sign_by<A: AuthScheme>(

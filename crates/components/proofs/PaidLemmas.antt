@@ -52,7 +52,7 @@ deciding_pays c (RetryIndicated kind retry_after) held reply grant = by_test (na
   where
     by_test : (t : Bool) → nat_le c.retry.max_attempts c.attempt ≡ t → (grant : Option ℕ)
         → GoesOnPaid c (if t then refusing OutOfAttempts held else retrying c kind retry_after held reply grant).choice
-            (if t then refusing OutOfAttempts held else retrying c kind retry_after held reply grant).reason
+        (if t then refusing OutOfAttempts held else retrying c kind retry_after held reply grant).reason
     by_test true e grant = tt
     by_test false e None = tt
     by_test false e (Some amount) = (grind (arith, nat_tests), c.cost, refl)

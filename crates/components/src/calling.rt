@@ -2,15 +2,15 @@
 ghost use Rattle.std.specs.Prelude.{◌≡◌, IfOk};
 ghost use Rattle.components.specs.Calling.{Abandons, Parks, Reads, Starts, Transmits, Waits, is_choose};
 
+use crate::Parts;
+use auth_endpoint::AuthScheme;
 use auth_parts::choose::end_load;
+use auth_parts::{DeserializeResponse, SerializeRequest};
 use call_parts::body::body;
 use call_parts::ending::abandon;
 use call_parts::park::park;
 use call_parts::sleeping::{start, wait};
 use call_parts::transmit::transmit;
-use crate::Parts;
-use auth_endpoint::AuthScheme;
-use auth_parts::{DeserializeResponse, SerializeRequest};
 use identity_cell::ResolveIdentity;
 use outside::Outside;
 use retry_parts::TakeOffer;
@@ -89,7 +89,12 @@ impl<
             end_load(&mut self.load, &mut self.outside);
             return Answer::Abandoned;
         }
-        abandon(abandoned, &mut self.sleeps, &mut self.call, &mut self.outside)
+        abandon(
+            abandoned,
+            &mut self.sleeps,
+            &mut self.call,
+            &mut self.outside,
+        )
     }
 
     /// Lets the outside wait.

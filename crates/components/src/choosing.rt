@@ -2,9 +2,9 @@
 ghost use Rattle.std.specs.Prelude.{IfOk};
 ghost use Rattle.components.specs.Choosing.{Chooses};
 
-use auth_parts::choose::choose;
 use crate::Parts;
 use auth_endpoint::AuthScheme;
+use auth_parts::choose::choose;
 use auth_parts::{DeserializeResponse, SerializeRequest};
 use identity_cell::ResolveIdentity;
 use outside::Outside;
@@ -27,11 +27,7 @@ impl<
     D: DeserializeResponse,
 > Parts<X, Q, C, I, A, R, Z, D> {
     /// Chooses an auth scheme, and asks for its identity.
-    pub fn choose(
-        &mut self,
-        alloc: Global,
-        settings: &Settings,
-    ) -> Result<Answer, OutOfMemory>
+    pub fn choose(&mut self, alloc: Global, settings: &Settings) -> Result<Answer, OutOfMemory>
         ensures { IfOk result (λ a. Chooses X.makes A.names R.polls self.old settings.now a self.new) }
     {
         choose(

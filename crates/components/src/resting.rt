@@ -2,11 +2,11 @@
 ghost use Rattle.std.specs.Prelude.{◌≡◌};
 ghost use Rattle.components.specs.Resting.{Ends, Exchanges};
 
-use auth_parts::choose::end_load;
-use call_parts::ending::end_all;
 use crate::Parts;
 use auth_endpoint::AuthScheme;
+use auth_parts::choose::end_load;
 use auth_parts::{DeserializeResponse, SerializeRequest};
+use call_parts::ending::end_all;
 use identity_cell::ResolveIdentity;
 use outside::Outside;
 use retry_parts::TakeOffer;

@@ -6,20 +6,20 @@ ghost use Rattle.retry_policy.specs.Verdict.{verdict_of};
 ghost use Rattle.retry_parts.specs.Hooking.{seen_context};
 ghost use Rattle.smithy_types.specs.Chain.{Chained};
 
-use call_parts::Sleeps;
-use call_parts::sleeping::{end_all_sleeps, end_role};
 use crate::Parts;
 use auth_endpoint::AuthScheme;
 use auth_parts::{DeserializeResponse, SerializeRequest};
+use call_parts::Sleeps;
+use call_parts::sleeping::{end_all_sleeps, end_role};
 use identity_cell::ResolveIdentity;
 use outside::Outside;
 use retry_parts::TakeOffer;
-use retry_policy::ClassifyRetry;
-use retry_quota::Quota;
 use retry_parts::configure::{CacheNeeds, configure};
 use retry_parts::decide::{context_of, decide};
 use retry_parts::hooking::hook as run_hook;
 use retry_parts::initial::initial;
+use retry_policy::ClassifyRetry;
+use retry_quota::Quota;
 use run_grammar::{Answer, ConfigureStage, Role};
 use smithy_context::{HookView, Settings};
 use smithy_types::{Hook, HttpRequest, HttpResponse, OutOfMemory, Outcome, Shared};
@@ -72,11 +72,7 @@ impl<
     }
 
     /// Whether an attempt is begun.
-    pub fn initial(
-        &mut self,
-        alloc: Global,
-        settings: &Settings,
-    ) -> Result<Answer, OutOfMemory>
+    pub fn initial(&mut self, alloc: Global, settings: &Settings) -> Result<Answer, OutOfMemory>
         ensures { IfOk result (λ a. Begins X.makes (record { meaning = Q.meaning; permit_bucket = Q.permit_bucket; permit_amount = Q.permit_amount; limiters = limiters_by Q.Limiter.at Q.Limiter.after_acquire Q.Limiter.reply_to Q.Limiter.after_update }) self.old settings.now a self.new) }
     {
         initial(

@@ -3,14 +3,14 @@ ghost use Rattle.std.specs.Prelude.{IfOk};
 ghost use Rattle.retry_quota.specs.Calls.{limiters_by};
 ghost use Rattle.components.specs.Serving.{Answers};
 
+use crate::Parts;
+use auth_endpoint::AuthScheme;
 use auth_parts::apply::{apply, resolve_endpoint};
 use auth_parts::deserialize::{deserialize, stream};
 use auth_parts::serialize::serialize;
 use auth_parts::sign::sign;
-use call_parts::load::load;
-use crate::Parts;
-use auth_endpoint::AuthScheme;
 use auth_parts::{DeserializeResponse, SerializeRequest};
+use call_parts::load::load;
 use identity_cell::ResolveIdentity;
 use outside::Outside;
 use retry_parts::TakeOffer;
@@ -33,9 +33,18 @@ impl<
     /// Answers one question.
     pub fn answer(&mut self, alloc: Global, question: &Question) -> Result<Answer, OutOfMemory>
         ensures { IfOk result (λ a. Answers (record {
-            makes = X.makes; sleeps = X.sleeps; quota = record { meaning = Q.meaning; permit_bucket = Q.permit_bucket; permit_amount = Q.permit_amount; limiters = limiters_by Q.Limiter.at Q.Limiter.after_acquire Q.Limiter.reply_to Q.Limiter.after_update }; says = C.says;
-            chain = record { names = I.names; hooks = I.hooks; runs = I.runs; with_bucket = I.with_bucket; with_verdict = I.with_verdict };
-            names = A.names; signs = A.signs; polls = R.polls; serializes = Z.serializes; streams = D.streams; deserializes = D.deserializes }) self.old question.now a self.new) }
+          makes = X.makes;
+          sleeps = X.sleeps;
+          quota = record { meaning = Q.meaning; permit_bucket = Q.permit_bucket; permit_amount = Q.permit_amount; limiters = limiters_by Q.Limiter.at Q.Limiter.after_acquire Q.Limiter.reply_to Q.Limiter.after_update };
+          says = C.says;
+          chain = record { names = I.names; hooks = I.hooks; runs = I.runs; with_bucket = I.with_bucket; with_verdict = I.with_verdict };
+          names = A.names;
+          signs = A.signs;
+          polls = R.polls;
+          serializes = Z.serializes;
+          streams = D.streams;
+          deserializes = D.deserializes;
+        }) self.old question.now a self.new) }
     {
         match question {
             Question::Configure { stage, .. } => self.configure(*stage),
@@ -67,7 +76,13 @@ impl<
             Question::Transmit { settings, request } => self.transmit(alloc, settings, request),
             Question::Stream { settings, response } => {
                 let may_stream = self.given.may_stream;
-                stream(alloc, &self.given.deserializer, may_stream, response, settings)
+                stream(
+                    alloc,
+                    &self.given.deserializer,
+                    may_stream,
+                    response,
+                    settings,
+                )
             }
             Question::Body { settings, response } => self.body(alloc, settings, response),
             Question::Deserialize { settings, response } => {

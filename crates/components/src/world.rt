@@ -10,9 +10,9 @@ use crate::Parts;
 use auth_endpoint::AuthScheme;
 use auth_parts::{DeserializeResponse, SerializeRequest};
 use identity_cell::ResolveIdentity;
+use orchestrate::World;
 use outside::Outside;
 use retry_parts::TakeOffer;
-use orchestrate::World;
 use retry_policy::ClassifyRetry;
 use retry_quota::Quota;
 use run_grammar::{Answer, Entry, Question};
@@ -97,9 +97,18 @@ impl<
     ghost calls = { λ w. w.log };
 
     ghost relates = { λ w l v. Served (record {
-            makes = X.makes; sleeps = X.sleeps; quota = record { meaning = Q.meaning; permit_bucket = Q.permit_bucket; permit_amount = Q.permit_amount; limiters = limiters_by Q.Limiter.at Q.Limiter.after_acquire Q.Limiter.reply_to Q.Limiter.after_update }; says = C.says;
-            chain = record { names = I.names; hooks = I.hooks; runs = I.runs; with_bucket = I.with_bucket; with_verdict = I.with_verdict };
-            names = A.names; signs = A.signs; polls = R.polls; serializes = Z.serializes; streams = D.streams; deserializes = D.deserializes }) w.parts l v.parts };
+      makes = X.makes;
+      sleeps = X.sleeps;
+      quota = record { meaning = Q.meaning; permit_bucket = Q.permit_bucket; permit_amount = Q.permit_amount; limiters = limiters_by Q.Limiter.at Q.Limiter.after_acquire Q.Limiter.reply_to Q.Limiter.after_update };
+      says = C.says;
+      chain = record { names = I.names; hooks = I.hooks; runs = I.runs; with_bucket = I.with_bucket; with_verdict = I.with_verdict };
+      names = A.names;
+      signs = A.signs;
+      polls = R.polls;
+      serializes = Z.serializes;
+      streams = D.streams;
+      deserializes = D.deserializes;
+    }) w.parts l v.parts };
 
     fn ask(&mut self, alloc: Global, question: Question) -> Result<Answer, OutOfMemory> {
         self.log.push(

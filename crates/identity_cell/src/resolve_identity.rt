@@ -1,6 +1,5 @@
 //! What resolves the identity that a request is signed with.
 pub use outside::IdentityPoll;
-
 use smithy_types::OutOfMemory;
 use std::alloc::Global;
 

@@ -35,8 +35,8 @@ pub fn decide<X: Outside, Q: Quota, C: ClassifyRetry>(
 ) -> Result<Answer, OutOfMemory>
     ensures { IfOk result (λ a. (calls : _) × Chained X.makes outside.old calls outside.new
         × IsDecided (record { meaning = Q.meaning; permit_bucket = Q.permit_bucket; permit_amount = Q.permit_amount; limiters = limiters_by Q.Limiter.at Q.Limiter.after_acquire Q.Limiter.reply_to Q.Limiter.after_update })
-            (verdict_of C.says context.now classifiers.now RetryAction.NoActionIndicated)
-            time_source context.now strategy.old quota.old a strategy.new calls quota.new) }
+        (verdict_of C.says context.now classifiers.now RetryAction.NoActionIndicated)
+        time_source context.now strategy.old quota.old a strategy.new calls quota.new) }
 {
     match strategy {
         RetryStrategy::Never(never) => {
@@ -44,7 +44,15 @@ pub fn decide<X: Outside, Q: Quota, C: ClassifyRetry>(
             Ok(Answer::Decided(decision.choice, None))
         }
         RetryStrategy::Standard(standard) => {
-            decide_standard(alloc, classifiers, time_source, standard, outside, quota, context)
+            decide_standard(
+                alloc,
+                classifiers,
+                time_source,
+                standard,
+                outside,
+                quota,
+                context,
+            )
         }
     }
 }
@@ -71,15 +79,16 @@ fn decide_standard<X: Outside, Q: Quota, C: ClassifyRetry>(
 ) -> Result<Answer, OutOfMemory>
     ensures { IfOk result (λ a. (calls : _) × Chained X.makes outside.old calls outside.new
         × StandardDecides (record { meaning = Q.meaning; permit_bucket = Q.permit_bucket; permit_amount = Q.permit_amount; limiters = limiters_by Q.Limiter.at Q.Limiter.after_acquire Q.Limiter.reply_to Q.Limiter.after_update })
-            (verdict_of C.says context.now classifiers.now RetryAction.NoActionIndicated)
-            time_source context.now strategy.old quota.old a strategy.new calls quota.new) }
+        (verdict_of C.says context.now classifiers.now RetryAction.NoActionIndicated)
+        time_source context.now strategy.old quota.old a strategy.new calls quota.new) }
 {
     let verdict = run_classifiers(classifiers, context);
     let moment = present(time_source, outside);
     let word = outside.word();
     let settings = context.settings();
-    let decided =
-        strategy.should_attempt_retry(alloc, context, &verdict, settings, quota, moment, word);
+    let decided = strategy.should_attempt_retry(
+        alloc, context, &verdict, settings, quota, moment, word,
+    );
     match decision_in(decided)? {
         Some(decision) => {
             let note = DecideNote {
@@ -96,9 +105,7 @@ fn decide_standard<X: Outside, Q: Quota, C: ClassifyRetry>(
 }
 
 // The decision, none where a setting is missing.
-fn decision_in(
-    decided: Result<Decision, StrategyError>,
-) -> Result<Option<Decision>, OutOfMemory>
+fn decision_in(decided: Result<Decision, StrategyError>) -> Result<Option<Decision>, OutOfMemory>
     ensures { IfOk result (λ found. MatchOption found
         (decided ≡ Err StrategyError.MissingSetting)
         (λ decision. decided ≡ Ok decision)) }

@@ -37,9 +37,9 @@ pub fn hook<X: Outside, Q: Quota, C: ClassifyRetry, I: TakeOffer>(
 ) -> Result<Answer, OutOfMemory>
     ensures { IfOk result (λ a. (calls : _) × Chained X.makes outside.old calls outside.new
         × Hooks (record { meaning = Q.meaning; permit_bucket = Q.permit_bucket; permit_amount = Q.permit_amount; limiters = limiters_by Q.Limiter.at Q.Limiter.after_acquire Q.Limiter.reply_to Q.Limiter.after_update })
-            (record { names = I.names; hooks = I.hooks; runs = I.runs; with_bucket = I.with_bucket; with_verdict = I.with_verdict })
-            (verdict_of C.says (seen_context view.now) classifiers.now RetryAction.NoActionIndicated)
-            hook view.now interceptors.old quota.old a interceptors.new calls quota.new) }
+        (record { names = I.names; hooks = I.hooks; runs = I.runs; with_bucket = I.with_bucket; with_verdict = I.with_verdict })
+        (verdict_of C.says (seen_context view.now) classifiers.now RetryAction.NoActionIndicated)
+        hook view.now interceptors.old quota.old a interceptors.new calls quota.new) }
 {
     if is_operations(hook) {
         return Ok(Answer::Hooked(HookAnswer::done()));
@@ -79,9 +79,9 @@ fn offer<Q: Quota, C: ClassifyRetry, I: TakeOffer>(
     view: &HookView,
 ) -> Result<(), OutOfMemory>
     ensures { OnOk result (Offers (record { meaning = Q.meaning; permit_bucket = Q.permit_bucket; permit_amount = Q.permit_amount; limiters = limiters_by Q.Limiter.at Q.Limiter.after_acquire Q.Limiter.reply_to Q.Limiter.after_update })
-            (record { names = I.names; hooks = I.hooks; runs = I.runs; with_bucket = I.with_bucket; with_verdict = I.with_verdict })
-            (verdict_of C.says (seen_context view.now) classifiers.now RetryAction.NoActionIndicated)
-            hook view.now interceptors.old quota.old interceptors.new quota.new) }
+        (record { names = I.names; hooks = I.hooks; runs = I.runs; with_bucket = I.with_bucket; with_verdict = I.with_verdict })
+        (verdict_of C.says (seen_context view.now) classifiers.now RetryAction.NoActionIndicated)
+        hook view.now interceptors.old quota.old interceptors.new quota.new) }
 {
     if is_before_retry_loop(hook) {
         return offer_bucket(alloc, interceptors, quota, view);
@@ -101,9 +101,9 @@ fn offer_bucket<Q: Quota, I: TakeOffer>(
 ) -> Result<(), OutOfMemory>
     ensures { OnOk result ((number : ℕ)
         × Chained (Calls (limiters_by Q.Limiter.at Q.Limiter.after_acquire Q.Limiter.reply_to Q.Limiter.after_update)) (Q.meaning quota.old)
-            (finding_bucket (standing_partition view.now.settings) (standing_spec view.now.settings) number) (Q.meaning quota.new)
+        (finding_bucket (standing_partition view.now.settings) (standing_spec view.now.settings) number) (Q.meaning quota.new)
         × (interceptors.new ≡ offered_bucket (record { names = I.names; hooks = I.hooks; runs = I.runs; with_bucket = I.with_bucket; with_verdict = I.with_verdict })
-            (standing_partition view.now.settings) number interceptors.old)) }
+        (standing_partition view.now.settings) number interceptors.old)) }
 {
     let Some(partition) = standing_partition(&view.settings) else {
         return Ok(());

@@ -3,8 +3,12 @@ use Rattle.auth_parts.specs.declared.choose.Picked.TheVariants.{Refused}
 use Rattle.auth_parts.proofs.choose.choose.Goals as goal
 
 pub returns-in-Refused : goal.returns-in-Refused
-returns-in-Refused g c = (_, refl, record {
-  picked = Refused c.in-Refused.text;
-  picks = rw (c.in_ok-before.ensures, c.in-Refused.is) at c.in_ok-id.ensures;
-  goes_on = (refl, refl, refl, refl);
-})
+returns-in-Refused g c = (
+  _,
+  refl,
+  record {
+    picked = Refused c.in-Refused.text;
+    picks = rw (c.in_ok-before.ensures, c.in-Refused.is) at c.in_ok-id.ensures;
+    goes_on = (refl, refl, refl, refl);
+  },
+)

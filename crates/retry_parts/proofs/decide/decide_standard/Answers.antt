@@ -11,8 +11,7 @@ sums_in_force-requires g c =
 pub returns-in-Some : goal.returns-in-Some
 returns-in-Some g c =
     let made = rw c.in-Some.is at c.in_ok-decision.ensures in
-    let decides = rw made at c.should_attempt_retry-decided.ensures.decides in
-    (
+    let decides = rw made at c.should_attempt_retry-decided.ensures.decides in (
       _,
       chained_more g.X.Outside.makes _ _ _ _ _ c.present-moment.ensures.calls c.word-word.ensures,
       record {
@@ -31,8 +30,7 @@ returns-in-Some g c =
 
 pub returns-in-None : goal.returns-in-None
 returns-in-None g c =
-    let missing = rw c.in-None.is at c.in_ok-decision.ensures in
-    (
+    let missing = rw c.in-None.is at c.in_ok-decision.ensures in (
       _,
       chained_more g.X.Outside.makes _ _ _ _ _ c.present-moment.ensures.calls c.word-word.ensures,
       record {
