@@ -136,3 +136,6 @@ impl<B: PolledBody> PolledBody for ContentLengthEnforcingBody<B> {
         self.body.size_hint()
     }
 }
+
+#[cfg(test)]
+mod tests;

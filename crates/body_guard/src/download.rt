@@ -112,3 +112,6 @@ fn passed(inner: Polled, said: Result<GraceAnswer, OutOfMemory>) -> Result<Polle
         Err(refusal) => Err(refusal),
     }
 }
+
+#[cfg(test)]
+mod tests;

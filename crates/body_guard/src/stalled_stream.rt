@@ -228,3 +228,6 @@ pub(crate) fn sets(alloc: Global, setting: Setting) -> Result<HookAnswer, OutOfM
         failure: None,
     })
 }
+
+#[cfg(test)]
+mod tests;

@@ -247,3 +247,6 @@ fn is_enabled(stall: StalledStreamProtectionConfig) -> bool
 {
     stall.upload || stall.download
 }
+
+#[cfg(test)]
+mod tests;
