@@ -24,36 +24,48 @@ const NO_SCRIPTS: [&str; 43] = [
     "{\"fuel\":1,\"input\":[1,\"\"],\"output_kind\":1,\"error_kind\":2}",
     "{\"Fuel\":1,\"input\":[1,\"\"],\"output_kind\":1,\"error_kind\":2,\"answers\":[]}",
     "{\"fuel\":1,\"more\":1,\"input\":[1,\"\"],\"output_kind\":1,\"error_kind\":2,\"answers\":[]}",
-    "{\"fuel\":1,\"stop\":null,\"input\":[1,\"\"],\"output_kind\":1,\"error_kind\":2,\"answers\":[]}",
-    "{\"fuel\":1,\"stop\":\"End\",\"input\":[1,\"\"],\"output_kind\":1,\"error_kind\":2,\"answers\":[]}",
+    "{\"fuel\":1,\"stop\":null,\"input\":[1,\"\"],\"output_kind\":1,\"error_kind\":2,\
+    \"answers\":[]}",
+    "{\"fuel\":1,\"stop\":\"End\",\"input\":[1,\"\"],\"output_kind\":1,\"error_kind\":2,\
+    \"answers\":[]}",
     "{\"fuel\":1.0,\"input\":[1,\"\"],\"output_kind\":1,\"error_kind\":2,\"answers\":[]}",
     "{\"fuel\":-1,\"input\":[1,\"\"],\"output_kind\":1,\"error_kind\":2,\"answers\":[]}",
-    "{\"fuel\":18446744073709551616,\"input\":[1,\"\"],\"output_kind\":1,\"error_kind\":2,\"answers\":[]}",
+    "{\"fuel\":18446744073709551616,\"input\":[1,\"\"],\"output_kind\":1,\"error_kind\":2,\
+    \"answers\":[]}",
     "{\"fuel\":\"1\",\"input\":[1,\"\"],\"output_kind\":1,\"error_kind\":2,\"answers\":[]}",
     "{\"fuel\":1,\"input\":[4294967296,\"\"],\"output_kind\":1,\"error_kind\":2,\"answers\":[]}",
     "{\"fuel\":1,\"input\":[1,\"\",0],\"output_kind\":1,\"error_kind\":2,\"answers\":[]}",
     "{\"fuel\":1,\"input\":[1,{\"hex\":\"0\"}],\"output_kind\":1,\"error_kind\":2,\"answers\":[]}",
     "{\"fuel\":1,\"input\":[1,{\"hex\":\"0F\"}],\"output_kind\":1,\"error_kind\":2,\"answers\":[]}",
     "{\"fuel\":1,\"input\":[1,{\"hex\":\"0g\"}],\"output_kind\":1,\"error_kind\":2,\"answers\":[]}",
-    "{\"fuel\":1,\"input\":[1,{\"hex\":\"\",\"x\":1}],\"output_kind\":1,\"error_kind\":2,\"answers\":[]}",
+    "{\"fuel\":1,\"input\":[1,{\"hex\":\"\",\"x\":1}],\"output_kind\":1,\"error_kind\":2,\
+    \"answers\":[]}",
     "{\"fuel\":1,\"inputs\":[1,\"\"],\"output_kind\":1,\"error_kind\":2,\"answers\":[]}",
     "{\"fuel\":1,\"input\":[1,\"\"],\"output-kind\":1,\"error_kind\":2,\"answers\":[]}",
     "{\"fuel\":1,\"input\":[1,\"\"],\"output_kind\":1,\"errorKind\":2,\"answers\":[]}",
     "{\"fuel\":1,\"input\":[1,\"\"],\"output_kind\":1,\"error_kind\":2,\"answer\":[]}",
-    "{\"fuel\":1,\"input\":[1,\"\"],\"output_kind\":1,\"error_kind\":2,\"answers\":[],\"stops\":\"None\"}",
-    "{\"fuel\":1,\"input\":[1,\"\"],\"output_kind\":1,\"error_kind\":2,\"answers\":[],\"fuel\":null}",
+    "{\"fuel\":1,\"input\":[1,\"\"],\"output_kind\":1,\"error_kind\":2,\"answers\":[],\
+    \"stops\":\"None\"}",
+    "{\"fuel\":1,\"input\":[1,\"\"],\"output_kind\":1,\"error_kind\":2,\"answers\":[],\
+    \"fuel\":null}",
     "{\"fuel\":1,\"input\":[1,\"\"],\"output_kind\":1,\"error_kind\":2,\"answers\":[],\"input\":1}",
-    "{\"fuel\":1,\"input\":[1,\"\"],\"output_kind\":1,\"error_kind\":2,\"answers\":[],\"output_kind\":null}",
-    "{\"fuel\":1,\"input\":[1,\"\"],\"output_kind\":1,\"error_kind\":2,\"answers\":[],\"error_kind\":[]}",
-    "{\"fuel\":1,\"input\":[1,\"\"],\"output_kind\":1,\"error_kind\":2,\"answers\":[],\"answers\":null}",
-    "{\"fuel\":1,\"input\":[1,\"\"],\"output_kind\":1,\"error_kind\":2,\"answers\":[],\"stop\":\"None\",\"stop\":1}",
+    "{\"fuel\":1,\"input\":[1,\"\"],\"output_kind\":1,\"error_kind\":2,\"answers\":[],\
+    \"output_kind\":null}",
+    "{\"fuel\":1,\"input\":[1,\"\"],\"output_kind\":1,\"error_kind\":2,\"answers\":[],\
+    \"error_kind\":[]}",
+    "{\"fuel\":1,\"input\":[1,\"\"],\"output_kind\":1,\"error_kind\":2,\"answers\":[],\
+    \"answers\":null}",
+    "{\"fuel\":1,\"input\":[1,\"\"],\"output_kind\":1,\"error_kind\":2,\"answers\":[],\
+    \"stop\":\"None\",\"stop\":1}",
     "{\"fuel\":1,\"input\":{},\"output_kind\":1,\"error_kind\":2,\"answers\":[]}",
     "{\"fuel\":1,\"input\":[1,\"\"],\"output_kind\":\"1\",\"error_kind\":2,\"answers\":[]}",
     "{\"fuel\":1,\"input\":[1,\"\"],\"output_kind\":1,\"error_kind\":true,\"answers\":[]}",
     "{\"fuel\":1,\"input\":[1,\"\"],\"output_kind\":1,\"error_kind\":2,\"answers\":{}}",
     "{\"fuel\":1,\"input\":[1,\"\"],\"output_kind\":1,\"error_kind\":2,\"answers\":[[]]}",
-    "{\"fuel\":1,\"input\":[1,\"\"],\"output_kind\":18446744073709551616,\"error_kind\":2,\"answers\":[]}",
-    "{\"fuel\":1,\"input\":[1,\"\"],\"output_kind\":1,\"error_kind\":18446744073709551616,\"answers\":[]}",
+    "{\"fuel\":1,\"input\":[1,\"\"],\"output_kind\":18446744073709551616,\"error_kind\":2,\
+    \"answers\":[]}",
+    "{\"fuel\":1,\"input\":[1,\"\"],\"output_kind\":1,\"error_kind\":18446744073709551616,\
+    \"answers\":[]}",
     "{\"fuel\":1,\"input\":[1,\"\"],\"output_kind\":1,\"error_kind\":-0,\"answers\":[]}",
 ];
 
@@ -67,8 +79,10 @@ const NO_ANSWERS: [&str; 39] = [
     "[\"Configure Client\",[\"Layer\",[[\"v2\",null],[\"v2\",true]]]]",
     "[\"Configure Client\",[\"Layer\",[[\"bucket\",4294967296]]]]",
     "[\"Configure Client\",[\"Layer\",[[\"teapot\",1]]]]",
-    "[\"Configure Client\",[\"Layer\",[[\"retry\",[\"Standard\",4294967296,0,0,\"ReuseAllConnections\",true,null]]]]]",
-    "[\"Configure Client\",[\"Layer\",[[\"retry\",[\"Standard\",1,0,0,\"ReuseAllConnections\",true,[\"V2_2\",true,0]]]]]]",
+    "[\"Configure Client\",[\"Layer\",[[\"retry\",[\"Standard\",4294967296,0,0,\
+    \"ReuseAllConnections\",true,null]]]]]",
+    "[\"Configure Client\",[\"Layer\",[[\"retry\",[\"Standard\",1,0,0,\"ReuseAllConnections\",\
+    true,[\"V2_2\",true,0]]]]]]",
     "[\"Hook read_before_attempt\",[\"Hook\",null,[],null]]",
     "[\"Hook read_before_attempts\",\"Done\"]",
     "[\"Serialize\",[\"Request\",[\"GET\",\"/\",[[\"a b\",\"x\"]],null]]]",
@@ -83,36 +97,47 @@ const NO_ANSWERS: [&str; 39] = [
     "[\"Wait Retry\",\"Absent\"]",
     "[\"Park\",\"Ready\"]",
     "[\"Configure Client\",[\"Layer\",[[\"timeouts\",[null,null,18446744073709551616,null]]]]]",
-    "[\"Configure Client\",[\"Layer\",[[\"retry\",[\"Standard\",1,18446744073709551616,0,\"ReuseAllConnections\",true,null]]]]]",
-    "[\"Configure Client\",[\"Layer\",[[\"retry\",[\"Standard\",1,0,18446744073709551616,\"ReuseAllConnections\",true,null]]]]]",
-    "[\"Configure Client\",[\"Layer\",[[\"retry\",[\"Standard\",1,0,0,\"ReuseAllConnections\",true,[\"V2_0\",true,18446744073709551616]]]]]]",
+    "[\"Configure Client\",[\"Layer\",[[\"retry\",[\"Standard\",1,18446744073709551616,0,\
+    \"ReuseAllConnections\",true,null]]]]]",
+    "[\"Configure Client\",[\"Layer\",[[\"retry\",[\"Standard\",1,0,18446744073709551616,\
+    \"ReuseAllConnections\",true,null]]]]]",
+    "[\"Configure Client\",[\"Layer\",[[\"retry\",[\"Standard\",1,0,0,\"ReuseAllConnections\",\
+    true,[\"V2_0\",true,18446744073709551616]]]]]]",
     "[\"Configure Client\",[\"Layer\",[[\"stall\",[true,true,18446744073709551616]]]]]",
     "[\"Configure Client\",[\"Layer\",[[\"capture\",18446744073709551616]]]]",
     "[\"Configure Client\",[\"Layer\",[[\"poisoned\",18446744073709551616]]]]",
     "[\"Initial\",[\"Delay\",18446744073709551616]]",
     "[\"Choose\",[\"Chosen\",\"s\",[\"\",18446744073709551616],null,[],null]]",
     "[\"Decide\",[\"Delay\",18446744073709551616]]",
-    "[\"Decide\",[\"Noted\",\"No\",[[\"RetryIndicated\",\"ServerError\",18446744073709551616],null,0,\"NotIndicated\",null]]]",
-    "[\"Decide\",[\"Noted\",\"No\",[\"RetryForbidden\",18446744073709551616,0,\"NotIndicated\",null]]]",
-    "[\"Decide\",[\"Noted\",\"No\",[\"RetryForbidden\",null,18446744073709551616,\"NotIndicated\",null]]]",
+    "[\"Decide\",[\"Noted\",\"No\",[[\"RetryIndicated\",\"ServerError\",18446744073709551616],\
+    null,0,\"NotIndicated\",null]]]",
+    "[\"Decide\",[\"Noted\",\"No\",[\"RetryForbidden\",18446744073709551616,0,\"NotIndicated\",\
+    null]]]",
+    "[\"Decide\",[\"Noted\",\"No\",[\"RetryForbidden\",null,18446744073709551616,\"NotIndicated\",\
+    null]]]",
     "[\"Decide\",[\"Noted\",\"No\",[\"RetryForbidden\",null,0,[\"Granted\",4294967296],null]]]",
-    "[\"Decide\",[\"Noted\",\"No\",[\"RetryForbidden\",null,0,\"NotIndicated\",[1,2,3,4,18446744073709551616]]]]",
+    "[\"Decide\",[\"Noted\",\"No\",[\"RetryForbidden\",null,0,\"NotIndicated\",[1,2,3,4,\
+    18446744073709551616]]]]",
     "[\"Deserialize\",[\"Outcome\",[\"Output\",[4294967296,\"\"]]]]",
 ];
 
 // Answers of less common forms.
 const ANSWERS: [&str; 11] = [
-    "[\"Configure Client\",[\"Layer\",[[\"retry\",[\"Standard\",1,0,0,\"ReuseAllConnections\",true,[\"V2_1\",true,0]]]]]]",
+    "[\"Configure Client\",[\"Layer\",[[\"retry\",[\"Standard\",1,0,0,\"ReuseAllConnections\",\
+    true,[\"V2_1\",true,0]]]]]]",
     "[\"Decide\",[\"NoAfter\",7]]",
     "[\"Decide\",[\"Noted\",[\"NoAfter\",7],[\"NoActionIndicated\",null,6,[\"NoQuota\",5],null]]]",
     "[\"Wait LongPoll\",\"Ready\"]",
-    "[\"Configure Client\",[\"Layer\",[[\"user.\",{\"hex\":\"\"}],[\"upload\",true],[\"partition\",\"p\"],[\"stall\",[true,false,1]]]]]",
-    "[\"Decide\",[\"Noted\",[\"Delay\",3],[[\"RetryIndicated\",\"ServerError\",4],5,6,[\"Granted\",4294967295],[1,2,3,4,5]]]]",
+    "[\"Configure Client\",[\"Layer\",[[\"user.\",{\"hex\":\"\"}],[\"upload\",true],\
+    [\"partition\",\"p\"],[\"stall\",[true,false,1]]]]]",
+    "[\"Decide\",[\"Noted\",[\"Delay\",3],[[\"RetryIndicated\",\"ServerError\",4],5,6,\
+    [\"Granted\",4294967295],[1,2,3,4,5]]]]",
     "[\"Start LongPoll\",\"Absent\"]",
     "[\"Abandon Wait LongPoll\",\"Abandoned\"]",
     "[\"Body\",[\"Read\",{\"hex\":\"c3a9\"}]]",
     "[\"Endpoint\",[\"Endpoint\",[\"u\",[[\"n\",[\"v\",\"w\"]]],[\"a\"]]]]",
-    "[\"Hook read_before_attempt\",[\"Hook\",[\"Outcome\",[\"Output\",[4294967295,\"x\"]]],[],\"\"]]",
+    "[\"Hook read_before_attempt\",[\"Hook\",[\"Outcome\",[\"Output\",[4294967295,\"x\"]]],[],\
+    \"\"]]",
 ];
 
 const FRONT: &str =
@@ -224,7 +249,12 @@ fn what_spells_no_script_is_refused_behind_a_limit(rt: HostRuntime) -> Result<()
 const PRINTED: [(&str, &str); 40] = [
     (
         "Configure Client",
-        "[\"Layer\",[[\"timeouts\",[1,null,2,18446744073709551615]],[\"retry\",[\"Adaptive\",4294967295,1,2,\"ReuseAllConnections\",true,[\"V2_0\",true,3]]],[\"stall\",[true,false,4]],[\"load_body\",false],[\"partition\",\"p\"],[\"bucket\",4294967295],[\"prefix\",\"x.\"],[\"preference\",[\"b\",\"a\"]],[\"v2\",true],[\"endpoint_params\",true],[\"auth_params\",true],[\"enforce_length\",true],[\"disable\",[\"x\"]],[\"capture\",5],[\"poisoned\",6],[\"upload\",true],[\"user.\",\"own\"],[\"user.k\",null]]]",
+        "[\"Layer\",[[\"timeouts\",[1,null,2,18446744073709551615]],[\"retry\",[\"Adaptive\",\
+        4294967295,1,2,\"ReuseAllConnections\",true,[\"V2_0\",true,3]]],[\"stall\",[true,false,\
+        4]],[\"load_body\",false],[\"partition\",\"p\"],[\"bucket\",4294967295],[\"prefix\",\
+        \"x.\"],[\"preference\",[\"b\",\"a\"]],[\"v2\",true],[\"endpoint_params\",true],\
+        [\"auth_params\",true],[\"enforce_length\",true],[\"disable\",[\"x\"]],[\"capture\",5],\
+        [\"poisoned\",6],[\"upload\",true],[\"user.\",\"own\"],[\"user.k\",null]]]",
     ),
     ("Configure Operation", "[\"Failed\",\"t\"]"),
     ("Configure Final", "\"Absent\""),
@@ -235,7 +265,8 @@ const PRINTED: [(&str, &str); 40] = [
     ),
     (
         "Hook modify_before_transmit",
-        "[\"Hook\",[\"Request\",[\"GET\",\"/p\",[[\"a\",\"1\"],[\"a\",\"2\"],[\"b\",{\"hex\":\"ff\"}]],[\"Once\",\"x\"]]],[[\"v2\",null]],\"t\"]",
+        "[\"Hook\",[\"Request\",[\"GET\",\"/p\",[[\"a\",\"1\"],[\"a\",\"2\"],[\"b\",\
+        {\"hex\":\"ff\"}]],[\"Once\",\"x\"]]],[[\"v2\",null]],\"t\"]",
     ),
     (
         "Hook modify_before_deserialization",
@@ -248,7 +279,8 @@ const PRINTED: [(&str, &str); 40] = [
     ("Hook read_after_execution", "[\"Hook\",null,[],\"\"]"),
     (
         "Serialize",
-        "[\"Request\",[\"GET\",\"/p\",[[\"a\",\"1\"],[\"a\",\"2\"],[\"b\",{\"hex\":\"ff\"}]],[\"Once\",\"x\"]]]",
+        "[\"Request\",[\"GET\",\"/p\",[[\"a\",\"1\"],[\"a\",\"2\"],[\"b\",{\"hex\":\"ff\"}]],\
+        [\"Once\",\"x\"]]]",
     ),
     ("Load", "[\"Loaded\",\"x\"]"),
     ("Load", "\"Pending\""),
@@ -259,7 +291,8 @@ const PRINTED: [(&str, &str); 40] = [
     ("Wait Attempt", "\"Pending\""),
     (
         "Choose",
-        "[\"Chosen\",\"s\",[{\"hex\":\"c3a9\"},8],[\"u\",[[\"n\",[\"v\",\"w\"]]],[\"a\"]],[[\"upload\",true]],\"Uncached\"]",
+        "[\"Chosen\",\"s\",[{\"hex\":\"c3a9\"},8],[\"u\",[[\"n\",[\"v\",\"w\"]]],[\"a\"]],\
+        [[\"upload\",true]],\"Uncached\"]",
     ),
     ("Endpoint", "[\"Endpoint\",[\"u\",[],null]]"),
     (
@@ -303,7 +336,8 @@ const PRINTED: [(&str, &str); 40] = [
     ("Decide", "[\"Delay\",1]"),
     (
         "Decide",
-        "[\"Noted\",[\"Delay\",1],[[\"RetryIndicated\",\"ServerError\",2],3,4,[\"Granted\",5],[6,7,8,9,10]]]",
+        "[\"Noted\",[\"Delay\",1],[[\"RetryIndicated\",\"ServerError\",2],3,4,[\"Granted\",5],[6,\
+        7,8,9,10]]]",
     ),
     (
         "Decide",
@@ -315,7 +349,8 @@ const PRINTED: [(&str, &str); 40] = [
     ),
     (
         "Decide",
-        "[\"Noted\",\"No\",[[\"RetryIndicated\",\"TransientError\",null],null,0,\"NotIndicated\",null]]",
+        "[\"Noted\",\"No\",[[\"RetryIndicated\",\"TransientError\",null],null,0,\"NotIndicated\",\
+        null]]",
     ),
     ("Abandon Wait LongPoll", "\"Abandoned\""),
     ("Park", "\"Parked\""),

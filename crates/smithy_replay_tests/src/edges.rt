@@ -86,8 +86,8 @@ fn nesting_has_a_limit(rt: HostRuntime) -> Result<(), Fail> {
 
 // A script of no fuel with a head of one header and so many others.
 fn headed(alloc: Global, others: usize) -> Result<Vec<u8>, Fail> {
-    let front =
-        "{\"fuel\":0,\"input\":[1,\"\"],\"output_kind\":1,\"error_kind\":2,\"answers\":[[\"Transmit\",[\"Response\",[200,[[\"a\",\"\"]";
+    let front = "{\"fuel\":0,\"input\":[1,\"\"],\"output_kind\":1,\"error_kind\":2,\
+        \"answers\":[[\"Transmit\",[\"Response\",[200,[[\"a\",\"\"]";
     repeated(alloc, front, ",[\"a\",\"\"]", others, "],null]]]]}")
 }
 

@@ -9,6 +9,8 @@ mod edges;
 #[cfg(test)]
 mod faults;
 #[cfg(test)]
+mod long_poll;
+#[cfg(test)]
 mod rows;
 #[cfg(test)]
 mod support;

@@ -62,6 +62,12 @@ const RETRY_STARTED: &str = "[\"Start Retry\",\"Started\"]";
 
 const RETRY_READY: &str = "[\"Wait Retry\",\"Ready\"]";
 
+const OPERATION_TIMED_OUT: &str = "[\"TimeoutError\",[\"Timeout\",\
+\"operation timeout (all attempts including retries) occurred after 7 ns\"]]";
+
+const ATTEMPT_TIMED_OUT: &str = "[\"TimeoutError\",[\"Timeout\",\
+\"operation attempt timeout (single attempt) occurred after 7 ns\"]]";
+
 // What a script makes of a run: how many calls, the last line, and the status.
 #[derive(Drop)]
 struct Row<'t> {
@@ -196,7 +202,8 @@ fn runs_end_as_their_scripts_say(rt: HostRuntime) -> Result<(), Fail> {
                 FINAL,
             ],
             calls: 7,
-            last: "[\"ConstructionFailure\",[\"Interceptor\",\"read_before_execution client\",\"x\"]]",
+            last: "[\"ConstructionFailure\",[\"Interceptor\",\"read_before_execution client\",\
+            \"x\"]]",
             status: Status::SdkError,
         },
         Row {
@@ -251,7 +258,7 @@ fn runs_end_as_their_scripts_say(rt: HostRuntime) -> Result<(), Fail> {
                 "[\"Wait Operation\",\"Ready\"]",
             ],
             calls: 29,
-            last: "[\"TimeoutError\",[\"Timeout\",\"operation timeout (all attempts including retries) occurred after 7 ns\"]]",
+            last: OPERATION_TIMED_OUT,
             status: Status::SdkError,
         },
         Row {
@@ -278,7 +285,7 @@ fn runs_end_as_their_scripts_say(rt: HostRuntime) -> Result<(), Fail> {
                 "[\"Wait Operation\",\"Ready\"]",
             ],
             calls: 39,
-            last: "[\"TimeoutError\",[\"Timeout\",\"operation timeout (all attempts including retries) occurred after 7 ns\"]]",
+            last: OPERATION_TIMED_OUT,
             status: Status::SdkError,
         },
         Row {
@@ -300,7 +307,7 @@ fn runs_end_as_their_scripts_say(rt: HostRuntime) -> Result<(), Fail> {
                 NO,
             ],
             calls: 30,
-            last: "[\"TimeoutError\",[\"Timeout\",\"operation attempt timeout (single attempt) occurred after 7 ns\"]]",
+            last: ATTEMPT_TIMED_OUT,
             status: Status::SdkError,
         },
         Row {
@@ -457,7 +464,7 @@ fn failures_deadlines_and_stops_are_printed(rt: HostRuntime) -> Result<(), Fail>
                 "[\"Wait Operation\",\"Ready\"]",
             ],
             calls: 32,
-            last: "[\"TimeoutError\",[\"Timeout\",\"operation timeout (all attempts including retries) occurred after 7 ns\"]]",
+            last: OPERATION_TIMED_OUT,
             status: Status::SdkError,
         },
         Row {
@@ -505,7 +512,8 @@ fn failures_deadlines_and_stops_are_printed(rt: HostRuntime) -> Result<(), Fail>
                 FINAL,
                 SERIALIZE,
                 GO,
-                "[\"Hook read_before_attempt\",[\"Hook\",null,[[\"timeouts\",[null,null,null,5]]],null]]",
+                "[\"Hook read_before_attempt\",[\"Hook\",null,[[\"timeouts\",[null,null,null,5]]],\
+                null]]",
                 CHOOSE,
                 ENDPOINT,
                 APPLY,
