@@ -8,7 +8,7 @@ A command reads its script from standard input and prints to standard output.
 
   replay        replays one run of an operation from a script of answers
   client        runs clients against a scripted outside (not built yet)
-  wait          runs a waiter (not built yet)
+  wait          runs a waiter over a script
   fleet         runs clients in threads over one bucket (not built yet)
   check         tells whether its input is the print of a run (not built yet)
   make N SEED   makes a script of N invocations and runs it; reads nothing (not built yet)

@@ -16,6 +16,7 @@ use smithy_types::Text;
 use std::alloc::Global;
 use std::sync::Wait;
 use std::thread::Threads;
+use wait_command::WaitCommand;
 
 /// Does what the words say.
 pub fn run<R: Threads + Wait + Sync, S: Source, K: Sink>(
@@ -76,7 +77,7 @@ fn ended_alone<S: Source, K: Sink>(
         Some(Command::Version) => show(alloc, &Fixed { text: VERSION }, sink),
         Some(Command::Replay) => serve(alloc, &Replay, source, sink),
         Some(Command::Client) => show(alloc, &Unbuilt, sink),
-        Some(Command::Wait) => show(alloc, &Unbuilt, sink),
+        Some(Command::Wait) => serve(alloc, &WaitCommand, source, sink),
         Some(Command::Fleet) => unreachable!(),
         Some(Command::Check) => show(alloc, &Unbuilt, sink),
         Some(Command::Make { .. }) => show(alloc, &Unbuilt, sink),

@@ -34,7 +34,6 @@ fn words_that_are_no_command_are_refused(rt: HostRuntime) -> Result<(), Fail> {
 fn commands_that_are_not_built_say_so(rt: HostRuntime) -> Result<(), Fail> {
     for line in [
         "client",
-        "wait",
         "fleet",
         "check",
         "make 0 7",
