@@ -1,5 +1,5 @@
 -- What is said of a script is said of its bytes.
-use Rattle.std.proofs.Common.{ℕ, List, ◌≡◌}
+use Rattle.std.proofs.Common.{ℕ, List, Result, Ok, Err, IfOk}
 use Rattle.shell.specs.Said.{Said, prints, refuses}
 use Rattle.shell.specs.declared.status.Refusal.TheVariants as refusals
 use Rattle.wait_script.specs.Script.{IsScript}
@@ -11,3 +11,8 @@ script_said bytes s (prints status text) i h = (s, i, h)
 script_said bytes s (refuses refusals.TooLarge) i h = (s, i, h)
 script_said bytes s (refuses refusals.BadScript) i h = absurd h
 script_said bytes s (refuses refusals.NotBuilt) i h = absurd h
+
+-- what follows of each answer follows of this one
+pub each_ok : {A E : Type 0} {P Q : A → Type 0} (r : Result A E) → ((x : A) → P x → Q x) → IfOk r P → IfOk r Q
+each_ok (Ok x) f h = f x h
+each_ok (Err e) f h = tt

@@ -1,5 +1,5 @@
 -- What an ask says of its answer is what is told of it.
-use Rattle.std.proofs.Common.{◌≡◌, ℕ, Option, Some, None, Result, Ok, Err}
+use Rattle.std.proofs.Common.{ℕ, Some, None, Ok, Err}
 use Rattle.std.specs.Prelude.{IfOk, IfSome}
 use Rattle.std.specs.Borrow.{MutBor}
 use Rattle.scripted_timers.specs.declared.polls.PolledValue.{PolledValue}

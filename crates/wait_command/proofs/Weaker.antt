@@ -1,5 +1,5 @@
 -- What a waiter did, told by weaker facts of its acceptors and its operation.
-use Rattle.std.proofs.Common.{◌≡◌, ℕ, List, [], ◌∷◌, ◌++◌, Option, Result, Ok, Err}
+use Rattle.std.proofs.Common.{ℕ, List, [], ◌∷◌, ◌++◌, Result, Ok, Err}
 use Rattle.std.specs.Borrow.{Bor, MutBor}
 use Rattle.smithy_types.specs.declared.acceptor.AcceptorState.{AcceptorState}
 use Rattle.smithy_types.specs.declared.fault.SdkError.{SdkError}

@@ -1,5 +1,5 @@
 -- What `wait` says of its input.
-use Rattle.std.specs.Prelude.{ℕ, ◌≡◌, true, false, List, [], Option, None, Some}
+use Rattle.std.specs.Prelude.{ℕ, ◌≡◌, true, false, List, [], None}
 use Rattle.shell.specs.Said.{Said, prints, refuses}
 use Rattle.shell.specs.declared.status.PrintStatus.{PrintStatus}
 use Rattle.shell.specs.declared.status.Refusal.TheVariants as refusals

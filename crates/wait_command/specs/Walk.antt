@@ -1,5 +1,5 @@
 -- The walk of a waiter over a script.
-use Rattle.std.specs.Prelude.{◌≡◌, ℕ, Option, None, Some, Result, Ok, Err, MatchResult}
+use Rattle.std.specs.Prelude.{◌≡◌, ℕ, None, Some, Result, Ok, Err, MatchResult}
 use Rattle.std.specs.Borrow.{Bor, MutBor}
 use Rattle.smithy_types.specs.declared.acceptor.AcceptorState.{AcceptorState}
 use Rattle.scripted_timers.specs.declared.polls.PolledValue.{PolledValue}
