@@ -10,7 +10,6 @@ use Rattle.outside.specs.declared.answers.IdentityPoll.{IdentityPoll}
 use Rattle.outside.specs.declared.answers.IdentityPoll.TheVariants as polled
 use Rattle.run_grammar.specs.declared.answer.Answer.{Answer}
 use Rattle.run_grammar.specs.declared.answer.Answer.TheVariants as answers
-use Rattle.run_grammar.specs.declared.answer.Chosen.{Chosen}
 use Rattle.smithy_context.specs.StandingLayers.{StandingLayers}
 use Rattle.smithy_types.specs.declared.identity.Endpoint.{Endpoint}
 use Rattle.smithy_types.specs.declared.notes.ChooseNote.TheVariants.{Uncached}

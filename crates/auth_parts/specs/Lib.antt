@@ -1,6 +1,8 @@
 pub mod Applying
+pub mod Caching
 pub mod Choosing
 pub mod Deserializing
+pub mod Identities
 pub mod Reading
 pub mod Serializing
 pub mod Signing

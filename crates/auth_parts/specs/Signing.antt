@@ -1,5 +1,5 @@
 -- Sign.
-use Rattle.std.specs.Prelude.{◌≡◌, ◌⊎◌, ℕ, List, Option, None, Some, position, slice_get}
+use Rattle.std.specs.Prelude.{◌≡◌, ℕ, List, Option, None, Some, position, slice_get}
 use Rattle.auth_endpoint.specs.Choice.{is_id}
 use Rattle.auth_endpoint.specs.declared.scheme.Signed.{Signed}
 use Rattle.auth_endpoint.specs.declared.scheme.Signed.TheVariants.{Request, Failed}

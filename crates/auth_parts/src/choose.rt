@@ -75,7 +75,7 @@ pub fn choose<X: Outside, A: AuthScheme, R: ResolveIdentity>(
 }
 
 // The endpoint, where it is resolved before the choice.
-fn endpoint_before(
+pub(crate) fn endpoint_before(
     endpoint: &Shared<Endpoint>,
     settings: &Settings,
 ) -> Result<Option<Shared<Endpoint>>, OutOfMemory>
@@ -88,7 +88,7 @@ fn endpoint_before(
 }
 
 // The option that is chosen, by its id, or why none is.
-fn pick<A: AuthScheme, R: ResolveIdentity>(
+pub(crate) fn pick<A: AuthScheme, R: ResolveIdentity>(
     alloc: Global,
     options: &List<Text>,
     schemes: &[A],

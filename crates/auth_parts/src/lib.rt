@@ -3,9 +3,11 @@
 #![tactic(auto)]
 
 pub mod apply;
+pub mod cached;
 pub mod choose;
 pub mod deserialize;
 pub mod deserializer;
+pub mod identities;
 mod reading;
 pub mod serialize;
 pub mod serializer;
@@ -13,5 +15,6 @@ pub mod sign;
 pub mod sources;
 
 pub use deserializer::{DeserializeResponse, Deserializer};
+pub use identities::{CachedIdentities, Identities};
 pub use serializer::{SerializeRequest, Serialized, Serializer};
 pub use sources::{IdentitySource, RegisteredSource};

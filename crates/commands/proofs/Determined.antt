@@ -29,7 +29,7 @@ use Rattle.shell.specs.Source.{SourceView}
 use Rattle.shell.proofs.Determined.{Seen, seen, Told, status_of}
 use Rattle.commands.specs.Laws.{EachScriptIsReplayed, is_printed}
 use Rattle.commands.specs.Replay.{IsReplay, Replays, came_to, replay_says}
-use Rattle.commands.proofs.Spelling.{ended_had_memory, stopped_had_memory}
+use Rattle.world_run.proofs.HadMemories.{ended_had_memory, stopped_had_memory}
 
 same_some : {X : Type 0} (x y : X) → Some x ≡ Some y → x ≡ y
 same_some x y e = cc

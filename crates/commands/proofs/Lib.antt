@@ -1,5 +1,6 @@
 pub mod Digits
 pub mod Spelling
-pub mod Invoking
 pub mod Saying
 pub mod Determined
+pub mod CheckSaying
+pub mod Reached

@@ -1,4 +1,5 @@
 pub mod Words
+pub mod Check
 pub mod Replay
 pub mod Run
 pub mod Laws

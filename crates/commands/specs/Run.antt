@@ -11,6 +11,7 @@ use Rattle.shell.specs.declared.status.Ended.TheVariants.{Shell}
 use Rattle.shell.specs.declared.status.ShellStatus.TheVariants as shells
 use Rattle.shell.specs.declared.status.Status.{Status}
 use Rattle.wait_command.specs.Wait.{wait_says}
+use Rattle.commands.specs.Check.{check_says}
 use Rattle.commands.specs.Replay.{replay_says}
 use Rattle.commands.specs.declared.help.TheConstants.{HELP, VERSION}
 use Rattle.commands.specs.declared.words.Command.{Command}
@@ -33,7 +34,7 @@ Does reads sees (Some commands.Replay) ended before after old new = Serves reads
 Does reads sees (Some commands.Client) ended before after old new = Shows sees tells_unbuilt ended before after old new
 Does reads sees (Some commands.Wait) ended before after old new = Serves reads sees wait_says ended before after old new
 Does reads sees (Some commands.Fleet) ended before after old new = Shows sees tells_unbuilt ended before after old new
-Does reads sees (Some commands.Check) ended before after old new = Shows sees tells_unbuilt ended before after old new
+Does reads sees (Some commands.Check) ended before after old new = Serves reads sees check_says ended before after old new
 Does reads sees (Some (commands.Make count seed)) ended before after old new = Shows sees tells_unbuilt ended before after old new
 
 -- The command was done, and no count of faults fell.

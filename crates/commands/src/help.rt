@@ -10,7 +10,7 @@ A command reads its script from standard input and prints to standard output.
   client        runs clients against a scripted outside (not built yet)
   wait          runs a waiter over a script
   fleet         runs clients in threads over one bucket (not built yet)
-  check         tells whether its input is the print of a run (not built yet)
+  check         tells whether its input is the print of a run
   make N SEED   makes a script of N invocations and runs it; reads nothing (not built yet)
   --help        prints this text; reads nothing
   --version     prints the version; reads nothing

@@ -1,6 +1,7 @@
 //! The program's commands: which words name them, and what each does over a source and a sink.
 #![tactic(auto)]
 
+pub mod check;
 pub mod gate;
 pub mod help;
 pub mod laws;

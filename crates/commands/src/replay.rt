@@ -7,14 +7,15 @@ ghost use Rattle.shell.specs.Said.{said};
 ghost use Rattle.commands.specs.Replay.{IsReplay, script_says, came_to};
 
 use json_forms::ReadError;
-use orchestrate::{Operation, ScriptWorld, invoke_with_stop_point};
+use orchestrate::ScriptWorld;
 use runcheck::print::print_run;
 use runcheck::{Ending, RunHead};
 use scripts::replay::{Script, is_within, read_script};
 use shell::command::{Answer, Command};
 use shell::status::{PrintStatus, Refusal};
-use smithy_types::{OutOfMemory, Payload, StopPoint, Text};
+use smithy_types::{OutOfMemory, Text};
 use std::alloc::{AllocError, Global};
+use world_run::{PayloadOperation, run_over};
 
 /// Replays the script that the input is, and prints the run.
 #[derive(Drop)]
@@ -65,22 +66,8 @@ fn run_script(alloc: Global, head: &RunHead, world: &mut ScriptWorld) -> Result<
     ensures ends { IfOk result (λ e. Ends head.now world.old.log world.new.log e) }
     ensures spelled { IfOk result (λ e. world.old.log ≡ [] → Spelled world.old.answers world.new.log world.new.answers) }
 {
-    let input = head.input.clone()?;
-    match head.stop {
-        StopPoint::None => {
-            let operation: Operation<Payload, Payload, Payload> = Operation::named(
-                Text::new(),
-                Text::new(),
-            );
-            let answer = operation.invoke(alloc, world, input, head.fuel);
-            Ending::of(answer, head)
-        }
-        StopPoint::BeforeTransmit => {
-            let stop = StopPoint::BeforeTransmit;
-            let answer = invoke_with_stop_point(alloc, "", "", world, input, stop, head.fuel);
-            Ending::of_stopped(answer, head)
-        }
-    }
+    let operation = PayloadOperation::named(Text::new(), Text::new());
+    run_over(alloc, &operation, head, world)
 }
 
 // What an ending comes to.

@@ -3,6 +3,7 @@ ghost use Rattle.std.specs.Prelude.{◌≡◌, ◌≢◌, Some};
 ghost use Rattle.commands.specs.Run.{Did, Ran};
 ghost use Rattle.commands.specs.Words.{command_of};
 
+use crate::check::Check;
 use crate::gate::{Gate, OpenGate};
 use crate::help::{HELP, VERSION};
 use crate::replay::Replay;
@@ -79,7 +80,7 @@ fn ended_alone<S: Source, K: Sink>(
         Some(Command::Client) => show(alloc, &Unbuilt, sink),
         Some(Command::Wait) => serve(alloc, &WaitCommand, source, sink),
         Some(Command::Fleet) => unreachable!(),
-        Some(Command::Check) => show(alloc, &Unbuilt, sink),
+        Some(Command::Check) => serve(alloc, &Check, source, sink),
         Some(Command::Make { .. }) => show(alloc, &Unbuilt, sink),
         None => Ended::Shell(ShellStatus::BadWords),
     }

@@ -1,19 +1,27 @@
 -- Each answer fits its question.
-use Rattle.std.proofs.Common.{◌≡◌, refl, ap, ◌∙◌, ℕ, Bool, true, false, if◌then◌else◌, List, [], Option, None, Some, inl, inr}
+use Rattle.std.proofs.Common.{◌≡◌, refl, ap, ◌∙◌, ℕ, Bool, true, false, ◌&&◌, not, if◌then◌else◌, List, [], Option, None, Some, inl, inr}
 use Rattle.call_parts.proofs.Fitting.{starts_fit, waits_fit, loaded_fits, transmits_fit, reads_fit, abandoned_fits, parked_fits}
 use Rattle.auth_parts.specs.Applying as applying
+use Rattle.auth_parts.specs.Caching.{Answered, Continues, GoesOnCached}
 use Rattle.auth_parts.specs.Choosing as choosing
 use Rattle.auth_parts.specs.Deserializing as deserializing
+use Rattle.auth_parts.specs.Identities.{ChoosesBy, has_cache}
 use Rattle.auth_parts.specs.Serializing as serializing
 use Rattle.auth_parts.specs.Signing as signing
+use Rattle.auth_parts.specs.declared.cached.Opened.{Opened}
+use Rattle.auth_parts.specs.declared.cached.Opened.TheVariants as opened
 use Rattle.auth_parts.specs.declared.choose.OpenLoad.{OpenLoad}
 use Rattle.auth_parts.specs.declared.choose.Picked.{Picked}
 use Rattle.auth_parts.specs.declared.choose.Picked.TheVariants.{Scheme, Refused}
+use Rattle.auth_parts.specs.declared.identities.CachedIdentities.{CachedIdentities}
+use Rattle.auth_parts.specs.declared.identities.Identities.{Identities}
 use Rattle.auth_parts.specs.declared.serializer.Serialized.{Serialized}
 use Rattle.auth_parts.specs.declared.serializer.Serialized.TheVariants as serialized
 use Rattle.auth_parts.specs.declared.sources.RegisteredSource.{RegisteredSource}
 use Rattle.auth_endpoint.specs.declared.scheme.Signed.{Signed}
 use Rattle.auth_endpoint.specs.declared.scheme.Signed.TheVariants as signed
+use Rattle.identity_cell.specs.LazyCache.{Cache}
+use Rattle.identity_cell.specs.declared.identity_load.IdentityLoad.{IdentityLoad}
 use Rattle.outside.specs.Calls.{OutsideCall}
 use Rattle.outside.specs.declared.answers.IdentityPoll.{IdentityPoll}
 use Rattle.outside.specs.declared.answers.IdentityPoll.TheVariants as polled
@@ -113,6 +121,40 @@ unfolding fits
 goes_on_fits polls endpoint (Scheme id) old load a new load_after calls h = same_fits kinds.Choose a _ h.answer_is (answered_fits id endpoint h.polled)
 goes_on_fits polls endpoint (Refused text) old load a new load_after calls h = same_fits kinds.Choose a (answers.Failed text) h.0 refl
 
+continues_fit : (id : List ℕ) (endpoint : Option Endpoint) (p : Option IdentityPoll) (cache : Cache) (open_load : Option IdentityLoad) (load : OpenLoad) (a : Answer) (new : Cache) (open_after : Option IdentityLoad) (load_after : OpenLoad) (calls : List OutsideCall)
+    → Continues id endpoint p cache open_load load a new open_after load_after calls → fits kinds.Choose a ≡ true
+unfolding fits
+continues_fit id endpoint None cache open_load load a new open_after load_after calls h = same_fits kinds.Choose a answers.Absent h.0 refl
+continues_fit id endpoint (Some polled.Pending) cache open_load load a new open_after load_after calls h =
+    elim h [ inl x ↦ same_fits kinds.Choose a answers.Pending x.0 refl | inr x ↦ same_fits kinds.Choose a _ x.answer_is refl ]
+continues_fit id endpoint (Some (polled.Failed text)) cache open_load load a new open_after load_after calls h = same_fits kinds.Choose a (answers.Failed text) h.0 refl
+continues_fit id endpoint (Some (polled.Ready identity)) cache open_load load a new open_after load_after calls h = same_fits kinds.Choose a _ h.1 refl
+
+answered_cached_fits : {R : Type 0} → (polls : R → IdentityPoll → R → Type 0) (id : List ℕ) (endpoint : Option Endpoint) (found : Opened) (old : List (RegisteredSource R)) (cache : Cache) (open_load : Option IdentityLoad) (load : OpenLoad) (a : Answer)
+    (new : List (RegisteredSource R)) (cache_after : Cache) (open_after : Option IdentityLoad) (load_after : OpenLoad) (calls : List OutsideCall)
+    → Answered polls id endpoint found old cache open_load load a new cache_after open_after load_after calls → fits kinds.Choose a ≡ true
+unfolding fits
+answered_cached_fits polls id endpoint (opened.Hit identity) old cache open_load load a new cache_after open_after load_after calls h = same_fits kinds.Choose a _ h.0 refl
+answered_cached_fits polls id endpoint opened.NotYet old cache open_load load a new cache_after open_after load_after calls h = same_fits kinds.Choose a answers.Pending h.0 refl
+answered_cached_fits polls id endpoint opened.Load old cache open_load load a new cache_after open_after load_after calls h =
+    continues_fit id endpoint h.answer cache open_load h.load_asked a cache_after open_after load_after h.going_on h.continues
+
+goes_on_cached_fits : {R : Type 0} → (polls : R → IdentityPoll → R → Type 0) (time_source : Bool) (settings : StandingLayers) (endpoint : Option Endpoint) (picked : Picked) (old : List (RegisteredSource R)) (cache : Cache) (open_load : Option IdentityLoad) (load : OpenLoad) (a : Answer)
+    (new : List (RegisteredSource R)) (cache_after : Cache) (open_after : Option IdentityLoad) (load_after : OpenLoad) (calls : List OutsideCall)
+    → GoesOnCached polls time_source settings endpoint picked old cache open_load load a new cache_after open_after load_after calls → fits kinds.Choose a ≡ true
+unfolding fits
+goes_on_cached_fits polls time_source settings endpoint (Scheme id) old cache open_load load a new cache_after open_after load_after calls h =
+    answered_cached_fits polls id endpoint h.found old h.cache_looked h.open_looked load a new cache_after open_after load_after h.answering h.answered
+goes_on_cached_fits polls time_source settings endpoint (Refused text) old cache open_load load a new cache_after open_after load_after calls h = same_fits kinds.Choose a (answers.Failed text) h.0 refl
+
+chooses_fit : {A R : Type 0} → (names : A → List ℕ) (polls : R → IdentityPoll → R → Type 0) (options : List (List ℕ)) (schemes : List A) (endpoint : Endpoint) (time_source : Bool) (settings : StandingLayers)
+    (cached : Option CachedIdentities) (old : Identities R) (a : Answer) (new : Identities R) (calls : List OutsideCall)
+    → ChoosesBy names polls options schemes endpoint time_source settings cached old a new calls → fits kinds.Choose a ≡ true
+chooses_fit names polls options schemes endpoint time_source settings None old a new calls h =
+    goes_on_fits polls _ h.0.picked old.sources.items old.load a new.sources.items new.load calls h.0.goes_on
+chooses_fit names polls options schemes endpoint time_source settings (Some cached) old a new calls h =
+    goes_on_cached_fits polls time_source settings _ h.1.picked old.sources.items cached.cache cached.current old.load a new.sources.items h.0.cache h.0.current new.load calls h.1.goes_on
+
 applies_to_fits : (request : HttpRequest) (endpoint : Endpoint) (settings : StandingLayers) (a : Answer) → applying.AppliesTo request endpoint settings a → fits kinds.Apply a ≡ true
 unfolding fits
 applies_to_fits request endpoint settings (answers.Request sent) h = refl
@@ -167,7 +209,7 @@ module _ {X Q P L C I A R Z D : Type 0} (means : Means X Q P L C I A R Z D) wher
   unfolding fits
   configures_fit old new Client a h = same_fits (kinds.Configure Client) a _ h.0 refl
   configures_fit old new Operation a h = same_fits (kinds.Configure Operation) a _ h.0 refl
-  configures_fit old new Final a h = same_fits (kinds.Configure Final) a _ h.0 (finished_fits false false)
+  configures_fit old new Final a h = same_fits (kinds.Configure Final) a _ h.0 (finished_fits (has_cache old.identities && not old.given.time_source) (has_cache old.identities && not old.given.sleep_impl))
 
   abandons_fit : (old new : Parts X Q C I A R Z D P L) (what : Abandonable) (a : Answer) → Abandons means.makes old what a new → fits (kinds.Abandon what) a ≡ true
   unfolding fits
@@ -190,7 +232,7 @@ module _ {X Q P L C I A R Z D : Type 0} (means : Means X Q P L C I A R Z D) wher
   answers_fit old new (questions.Initial settings) a h = begun_fits means.quota old.given.time_source settings old.strategy old.quota a new.strategy h.calls new.quota h.begun
   answers_fit old new (questions.Start role nanos) a h = starts_fit old.given.sleep_impl role nanos old.sleeps a new.sleeps h.0.calls h.0.these
   answers_fit old new (questions.Wait role) a h = waits_fit role _ a h.0.calls h.0.these
-  answers_fit old new (questions.Choose settings) a h = goes_on_fits means.polls _ h.chooses.picked old.sources.items old.load a new.sources.items new.load h.calls h.chooses.goes_on
+  answers_fit old new (questions.Choose settings) a h = chooses_fit means.names means.polls _ _ _ old.given.time_source settings old.identities.cached old.identities a new.identities h.calls h.chooses
   answers_fit old new (questions.Endpoint settings identity) a h = same_fits kinds.Endpoint a _ h.0 refl
   answers_fit old new (questions.Apply settings request endpoint) a h = applies_fit request endpoint settings a h.0
   answers_fit old new (questions.Sign settings request scheme identity endpoint) a h = signs_fit means.names means.signs old.given.schemes.items request scheme identity endpoint a h.0

@@ -1,6 +1,6 @@
 -- Start, Wait, Transmit, Body, Abandon and Park: each speaks of the parts that it touches, and the others stay.
 use Rattle.std.specs.Prelude.{◌≡◌, ℕ, Bool, true, false, List, [], ◌∷◌, Option}
-use Rattle.auth_parts.specs.Choosing.{ending_load, no_load}
+use Rattle.auth_parts.specs.Identities.{at_rest, ending_choice}
 use Rattle.call_parts.specs.Ending.{abandoning, call_without, sleeps_without}
 use Rattle.call_parts.specs.Reading as reading
 use Rattle.call_parts.specs.Sleeping as sleeping
@@ -45,8 +45,8 @@ module _ {X Q C I A R Z D P L : Type 0} (makes : X → OutsideCall → X → Typ
   -- a choice gives up its load, and all else the call or a sleep
   abbrev pub Abandons : Parts X Q C I A R Z D P L → Abandonable → Answer → Parts X Q C I A R Z D P L → Type 0
   Abandons old abandoned.Choose a new =
-      (a ≡ Abandoned) × Chained makes old.outside (ending_load old.load) new.outside
-      × (new ≡ record old { load = no_load; outside = new.outside })
+      (a ≡ Abandoned) × Chained makes old.outside (ending_choice old.identities) new.outside
+      × (new ≡ record old { identities = at_rest old.identities; outside = new.outside })
   Abandons old pending a new =
       (a ≡ Abandoned) × Chained makes old.outside (abandoning pending old.sleeps old.call) new.outside
       × (new ≡ record old { sleeps = sleeps_without pending old.sleeps; call = call_without pending old.call; outside = new.outside })

@@ -1,6 +1,6 @@
 -- What is open is ended, and outside and quota are exchanged.
 use Rattle.std.specs.Prelude.{◌≡◌, List, ◌++◌}
-use Rattle.auth_parts.specs.Choosing.{ending_load, no_load}
+use Rattle.auth_parts.specs.Identities.{at_rest, ending_choice}
 use Rattle.call_parts.specs.Ending.{ending_calls}
 use Rattle.call_parts.specs.Sleeping.{no_sleeps}
 use Rattle.call_parts.specs.declared.call.Call.TheVariants.{Idle}
@@ -11,8 +11,8 @@ use Rattle.components.specs.declared.parts.Parts.{Parts}
 module _ {X Q C I A R Z D P L : Type 0} (makes : X → OutsideCall → X → Type 0) where
   -- the open load, the open call and the open sleeps are ended, and all else stays
   pub record Ends (old new : Parts X Q C I A R Z D P L) : Type 0 where
-    pub calls : Chained makes old.outside (ending_load old.load ++ ending_calls old.sleeps old.call) new.outside
-    pub others : new ≡ record old { sleeps = no_sleeps; call = Idle; load = no_load; outside = new.outside }
+    pub calls : Chained makes old.outside (ending_choice old.identities ++ ending_calls old.sleeps old.call) new.outside
+    pub others : new ≡ record old { sleeps = no_sleeps; call = Idle; identities = at_rest old.identities; outside = new.outside }
 
   -- what is open is ended first, and then outside and quota are exchanged
   pub record Exchanges (old : Parts X Q C I A R Z D P L) (outside : X) (quota : Q) (new : Parts X Q C I A R Z D P L) (outside_after : X) (quota_after : Q) : Type 0 where

@@ -1,5 +1,6 @@
 -- Configure, Hook, Initial and Decide.
 use Rattle.std.specs.Prelude.{◌≡◌, ℕ, Bool, true, false, List, [], ◌++◌, Option, None}
+use Rattle.auth_parts.specs.Identities.{has_cache}
 use Rattle.call_parts.specs.Sleeping.{give_up_all, giving_up, no_sleeps, with_sleep}
 use Rattle.call_parts.specs.declared.sleeping.Sleeps.{Sleeps}
 use Rattle.outside.specs.Calls.{OutsideCall}
@@ -58,7 +59,7 @@ decided_view settings request response outcome attempt = record {
 
 module _ {X Q C I A R Z D P L : Type 0} (makes : X → OutsideCall → X → Type 0) where
   abbrev pub needs_of : Parts X Q C I A R Z D P L → CacheNeeds
-  needs_of parts = record { lazy_cache = false; time_source = parts.given.time_source; sleep_impl = parts.given.sleep_impl }
+  needs_of parts = record { lazy_cache = has_cache parts.identities; time_source = parts.given.time_source; sleep_impl = parts.given.sleep_impl }
 
   -- before the client's step what is open is ended
   abbrev pub Configures : Parts X Q C I A R Z D P L → ConfigureStage → Answer → Parts X Q C I A R Z D P L → Type 0

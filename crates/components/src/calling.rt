@@ -4,7 +4,6 @@ ghost use Rattle.components.specs.Calling.{Abandons, Parks, Reads, Starts, Trans
 
 use crate::Parts;
 use auth_endpoint::AuthScheme;
-use auth_parts::choose::end_load;
 use auth_parts::{DeserializeResponse, SerializeRequest};
 use call_parts::body::body;
 use call_parts::ending::abandon;
@@ -86,7 +85,7 @@ impl<
         ensures { Abandons X.makes self.old abandoned result self.new }
     {
         if is_choose(abandoned) {
-            end_load(&mut self.load, &mut self.outside);
+            self.identities.end_choice(&mut self.outside);
             return Answer::Abandoned;
         }
         abandon(

@@ -4,7 +4,6 @@ ghost use Rattle.components.specs.Choosing.{Chooses};
 
 use crate::Parts;
 use auth_endpoint::AuthScheme;
-use auth_parts::choose::choose;
 use auth_parts::{DeserializeResponse, SerializeRequest};
 use identity_cell::ResolveIdentity;
 use outside::Outside;
@@ -30,13 +29,12 @@ impl<
     pub fn choose(&mut self, alloc: Global, settings: &Settings) -> Result<Answer, OutOfMemory>
         ensures { IfOk result (λ a. Chooses X.makes A.names R.polls self.old settings.now a self.new) }
     {
-        choose(
+        self.identities.choose(
             alloc,
             &self.given.options,
             self.given.schemes.as_slice(),
-            self.sources.as_mut_slice(),
             &self.given.endpoint,
-            &mut self.load,
+            self.given.time_source,
             &mut self.outside,
             settings,
         )

@@ -1,8 +1,7 @@
 //! The parts of a client.
 
 use auth_endpoint::AuthScheme;
-use auth_parts::choose::OpenLoad;
-use auth_parts::{DeserializeResponse, RegisteredSource, SerializeRequest};
+use auth_parts::{DeserializeResponse, Identities, SerializeRequest};
 use call_parts::{Call, Sleeps};
 use identity_cell::ResolveIdentity;
 use outside::Outside;
@@ -57,14 +56,12 @@ pub struct Parts<
     pub sleeps: Sleeps,
     /// The call at the connector.
     pub call: Call,
-    /// The open load of an identity.
-    pub load: OpenLoad,
     /// The retry strategy with the permit that it holds.
     pub strategy: RetryStrategy<Q::Permit>,
     /// The interceptors, in their order.
     pub interceptors: Vec<I>,
-    /// Where identities come from.
-    pub sources: Vec<RegisteredSource<R>>,
+    /// Where identities come from, their cache, and what is open of a choice.
+    pub identities: Identities<R>,
     /// What lies outside of the client.
     pub outside: X,
     /// From what retries are paid.

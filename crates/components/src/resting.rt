@@ -4,7 +4,6 @@ ghost use Rattle.components.specs.Resting.{Ends, Exchanges};
 
 use crate::Parts;
 use auth_endpoint::AuthScheme;
-use auth_parts::choose::end_load;
 use auth_parts::{DeserializeResponse, SerializeRequest};
 use call_parts::ending::end_all;
 use identity_cell::ResolveIdentity;
@@ -28,7 +27,7 @@ impl<
     pub fn end_open(&mut self)
         ensures { Ends X.makes self.old self.new }
     {
-        end_load(&mut self.load, &mut self.outside);
+        self.identities.end_choice(&mut self.outside);
         end_all(&mut self.sleeps, &mut self.call, &mut self.outside);
     }
 

@@ -43,7 +43,7 @@ impl<
             self.end_open();
         }
         let needs = CacheNeeds {
-            lazy_cache: false,
+            lazy_cache: self.identities.has_cache(),
             time_source: self.given.time_source,
             sleep_impl: self.given.sleep_impl,
         };

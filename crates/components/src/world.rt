@@ -2,6 +2,7 @@
 ghost use Rattle.std.specs.Prelude.{◌≡◌, [], ◌∷◌, ◌++◌, List, Ok, IfOk};
 ghost use Rattle.run_grammar.specs.Entry.{entry};
 ghost use Rattle.run_grammar.specs.declared.answer.Entry.{Entry};
+ghost use Rattle.auth_parts.specs.Identities.{loads_of};
 ghost use Rattle.components.specs.Resting.{Exchanges};
 ghost use Rattle.retry_parts.specs.Strategies.{Closes};
 ghost use Rattle.retry_quota.specs.Calls.{limiters_by};
@@ -52,6 +53,14 @@ impl<
         ensures { result.now ≡ self.now.log }
     {
         &self.log
+    }
+
+    /// How many loads of identities were begun into the cache, those too that failed, timed out or
+    /// were given up. It stops at `u64::MAX`. Without a cache 0.
+    pub fn loads(&self) -> u64
+        ensures { result ≡ loads_of self.now.parts.identities.cached }
+    {
+        self.parts.identities.loads()
     }
 
     /// Ends what is open, and exchanges the outside and the quota for these.

@@ -1,12 +1,10 @@
-//! Worked runs of the engine: scripts as tables, and what the engine must ask and answer over them.
+//! Scripts of the engine as tables, the worlds that answer by them, and one whose memory runs out.
 #![tactic(auto)]
 
 pub mod crossing;
 pub mod refusing;
 pub mod script;
 pub mod spelled;
-#[cfg(test)]
-mod tests;
 
 pub use refusing::RefusingWorld;
 pub use script::{Line, world};

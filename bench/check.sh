@@ -1,0 +1,49 @@
+#!/bin/sh
+# Counts the instructions of `check` by callgrind: a byte of a long print against one of a short
+# print. Each is the print of a whole run of retries, and `check` must say so.
+top=$(cd "$(dirname "$0")/.." && pwd)
+program=$top/crates/smithy_replay/out/smithy_replay
+room=$(mktemp -d)
+trap 'rm -rf "$room"' EXIT
+
+[ -x "$program" ] || (cd "$top/crates/smithy_replay" && rt run) || exit 1
+
+# A script of so many attempts, each of which fails, with a delay behind each but the last.
+retries() {
+    awk -v attempts="$1" 'BEGIN {
+        printf "{\"fuel\":100000,\"input\":[1,\"x\"],\"output_kind\":1,\"error_kind\":2,\"answers\":["
+        printf "[\"Configure Client\",[\"Layer\",[]]],[\"Configure Operation\",[\"Layer\",[]]],[\"Configure Final\",[\"Layer\",[]]],"
+        printf "[\"Serialize\",[\"Request\",[\"GET\",\"/\",[],\"x\"]]],[\"Initial\",\"Go\"]"
+        for (i = 1; i <= attempts; i++) {
+            printf ",[\"Choose\",[\"Chosen\",\"noAuth\",[\"\",null],null,[],null]],[\"Endpoint\",[\"Endpoint\",[\"http://h\",[],null]]]"
+            printf ",[\"Apply\",[\"Request\",[\"GET\",\"http://h/\",[],\"x\"]]],[\"Sign\",[\"Request\",[\"GET\",\"http://h/\",[],\"x\"]]]"
+            printf ",[\"Transmit\",[\"Response\",[503,[],\"\"]]],[\"Stream\",\"NotStreaming\"],[\"Body\",[\"Read\",\"\"]]"
+            printf ",[\"Deserialize\",[\"Outcome\",[\"Failed\",[\"Connector\",\"Io\",\"x\"]]]]"
+            if (i < attempts) printf ",[\"Decide\",[\"Delay\",1]],[\"Start Retry\",\"Started\"]"
+        }
+        print ",[\"Decide\",\"No\"]]}"
+    }'
+}
+
+# The instructions of the program over this print.
+instructions() {
+    valgrind --tool=callgrind --callgrind-out-file=/dev/null "$program" check <"$1" 2>&1 >/dev/null |
+        sed -n 's/.*Collected : *\([0-9]*\).*/\1/p'
+}
+
+# The greatest memory of the program over this print, in MB.
+memory() {
+    /usr/bin/time -f %M "$program" check <"$1" 2>&1 >/dev/null | tail -1 | awk '{ print int($1 / 1024) }'
+}
+
+echo "| calls | print, bytes | instructions | a byte | memory, MB |"
+echo "|---|---|---|---|---|"
+for attempts in 10 850 4300; do
+    retries "$attempts" >"$room/run.json"
+    "$program" replay <"$room/run.json" >"$room/print.txt"
+    [ "$("$program" check <"$room/print.txt")" = '["yes"]' ] || exit 1
+    calls=$(($(wc -l <"$room/print.txt") - 2))
+    bytes=$(wc -c <"$room/print.txt")
+    spent=$(instructions "$room/print.txt")
+    echo "| $calls | $bytes | $spent | $((spent / bytes)) | $(memory "$room/print.txt") |"
+done

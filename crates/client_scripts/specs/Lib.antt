@@ -1,0 +1,9 @@
+pub mod Members
+pub mod Buckets
+pub mod Retries
+pub mod Auth
+pub mod Clients
+pub mod Invocations
+pub mod Script
+pub mod Limits
+pub mod Placed

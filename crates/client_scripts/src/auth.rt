@@ -1,0 +1,85 @@
+//! Readers of how a client signs.
+ghost use Rattle.std.specs.Prelude.{◌≡◌};
+ghost use Rattle.serde_json.specs.View.{view};
+ghost use Rattle.json_forms.specs.Reading.{Reads};
+ghost use Rattle.client_scripts.specs.Auth.{lazy_of, lazy_at, cache_at, auth_schemes_at, auth_at};
+
+use crate::terms::{AuthChoice, AuthSchemes};
+use identity_cell::{LazyCacheBuilder, SharedIdentityCache};
+use json_forms::forms::{read_optional_number, read_optional_texts, read_tagged, read_texts, says};
+use json_forms::{ReadError, read};
+use outside_scripts::read_sources;
+use serde_json::Value;
+use std::alloc::Global;
+
+// The lazy cache of these parts, where they make one.
+fn build_lazy(parts: LazyCacheBuilder) -> Result<SharedIdentityCache, ReadError>
+    ensures { Reads result (lazy_of parts) }
+{
+    match parts.build() {
+        Ok(cache) => Ok(cache),
+        Err(_) => Err(ReadError::Refused),
+    }
+}
+
+// A lazy cache: its buffer, expiration, partitions and load timeout.
+#[tactic(auto, unfolding(crate::specs::Auth::lazy_at))]
+fn read_lazy(value: &Value) -> Result<SharedIdentityCache, ReadError>
+    ensures { Reads result (lazy_at (view value.now)) }
+{
+    let (buffer, expiration, partitions, timeout) = read::quadruple(value)?;
+    let buffer = read::number(buffer)?;
+    let expiration = read::number(expiration)?;
+    let partitions = read::number(partitions)?;
+    let timeout = read_optional_number(timeout)?;
+    build_lazy(LazyCacheBuilder {
+        time_source: false,
+        sleep_impl: false,
+        load_timeout: timeout,
+        buffer_time: Some(buffer),
+        default_expiration: Some(expiration),
+        max_partitions: Some(partitions),
+    })
+}
+
+// How identities are kept.
+#[tactic(auto, unfolding(crate::specs::Auth::cache_at))]
+fn read_cache(value: &Value) -> Result<SharedIdentityCache, ReadError>
+    ensures { Reads result (cache_at (view value.now)) }
+{
+    if says("none", value) {
+        return Ok(SharedIdentityCache::NoCache);
+    }
+    read_lazy(read_tagged("lazy", value)?)
+}
+
+// Auth schemes and what they sign with.
+#[tactic(auto, unfolding(crate::specs::Auth::auth_schemes_at))]
+fn read_auth_schemes(alloc: Global, value: &Value) -> Result<AuthSchemes, ReadError>
+    ensures { Reads result (auth_schemes_at (view value.now)) }
+{
+    let (options, schemes, identities, preference, cache) = read::quintuple(value)?;
+    let cache = read_cache(cache)?;
+    let options = read_texts(alloc, options)?;
+    let schemes = read_texts(alloc, schemes)?;
+    let identities = read_sources(alloc, identities)?;
+    let preference = read_optional_texts(alloc, preference)?;
+    Ok(AuthSchemes {
+        options,
+        schemes,
+        identities,
+        preference,
+        cache,
+    })
+}
+
+/// How a client signs.
+#[tactic(auto, unfolding(crate::specs::Auth::auth_at))]
+pub fn read_auth(alloc: Global, value: &Value) -> Result<AuthChoice, ReadError>
+    ensures { Reads result (auth_at (view value.now)) }
+{
+    if says("none", value) {
+        return Ok(AuthChoice::NoAuth);
+    }
+    Ok(AuthChoice::Schemes(read_auth_schemes(alloc, value)?))
+}

@@ -1,0 +1,92 @@
+//! Readers of invocations.
+ghost use Rattle.std.specs.Prelude.{◌≡◌};
+ghost use Rattle.serde_json.specs.View.{view, items_view};
+ghost use Rattle.json_forms.specs.Lists.{list_of};
+ghost use Rattle.json_forms.specs.Reading.{Reads};
+ghost use Rattle.client_scripts.specs.Invocations.{stop_at, run_at, invocation_at, invocations_at};
+
+use crate::members::{only_members, read_place};
+use crate::terms::InvocationRecord;
+use json_forms::{ReadError, read};
+use outside_scripts::read_records;
+use serde_json::Value;
+use smithy_types::{List, StopPoint};
+use std::alloc::Global;
+use value_json::http::read_payload;
+use value_json::names::stop_named;
+
+/// How many members an invocation has.
+const INVOCATION_MEMBERS: usize = 5;
+
+// A stop point.
+#[tactic(auto, unfolding(crate::specs::Invocations::stop_at))]
+fn read_stop(value: &Value) -> Result<StopPoint, ReadError>
+    ensures { Reads result (stop_at (view value.now)) }
+{
+    match stop_named(read::str(value)?) {
+        Some(stop) => Ok(stop),
+        None => Err(ReadError::Refused),
+    }
+}
+
+/// An invocation of this client, of the members that say what is run.
+#[tactic(auto, unfolding(crate::specs::Invocations::run_at))]
+pub fn read_run(alloc: Global, client: usize, value: &Value) -> Result<InvocationRecord, ReadError>
+    ensures { Reads result (run_at client (view value.now)) }
+{
+    let fuel = read::number(read::member(value, "fuel")?)?;
+    let stop = read_stop(read::member(value, "stop")?)?;
+    let input = read_payload(alloc, read::member(value, "input")?)?;
+    let responses = read_records(alloc, read::member(value, "responses")?)?;
+    Ok(InvocationRecord {
+        client,
+        input,
+        fuel,
+        stop,
+        responses,
+    })
+}
+
+/// An invocation of a script with so many clients.
+#[tactic(auto, unfolding(crate::specs::Invocations::invocation_at))]
+pub fn read_invocation(
+    alloc: Global,
+    clients: usize,
+    value: &Value,
+) -> Result<InvocationRecord, ReadError>
+    ensures { Reads result (invocation_at clients (view value.now)) }
+{
+    only_members(INVOCATION_MEMBERS, value)?;
+    let client = read_place(clients, read::member(value, "client")?)?;
+    read_run(alloc, client, value)
+}
+
+#[tactic(auto, using(json_forms::proofs::ReadLists::list_reading))]
+fn invocation_items(
+    alloc: Global,
+    clients: usize,
+    items: &[Value],
+) -> Result<List<InvocationRecord>, ReadError>
+    ensures { Reads result (list_of (invocation_at clients) (items_view items.now)) }
+{
+    let mut list = List::new();
+    for value in items {
+        match read_invocation(alloc, clients, value) {
+            Ok(invocation) => list.push(alloc, invocation)?,
+            Err(error) => return Err(error),
+        }
+    }
+    Ok(list)
+}
+
+/// The invocations of a script with so many clients, in order.
+#[tactic(auto, unfolding(crate::specs::Invocations::invocations_at))]
+pub fn read_invocations(
+    alloc: Global,
+    clients: usize,
+    value: &Value,
+) -> Result<List<InvocationRecord>, ReadError>
+    ensures { Reads result (invocations_at clients (view value.now)) }
+{
+    invocation_items(alloc, clients, read::items(value)?)
+}

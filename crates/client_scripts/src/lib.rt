@@ -1,0 +1,22 @@
+//! Scripts of clients, as they are read: buckets, clients and invocations with what the outside
+//! answers, and the limits of what they may hold.
+#![tactic(auto)]
+
+pub mod auth;
+pub mod buckets;
+pub mod client;
+pub mod invocation;
+pub mod limits;
+pub mod members;
+pub mod retries;
+pub mod script;
+pub mod terms;
+#[cfg(test)]
+mod tests;
+
+pub use limits::{capacity_fits, client_fits, client_script_fits};
+pub use script::{ClientScript, read_client_script};
+pub use terms::{
+    AuthChoice, AuthSchemes, BucketTerms, ClassifierChoice, ClientFlags, ClientObject, ClientRules,
+    ClientTarget, InvocationRecord, RetryChoice,
+};

@@ -1,0 +1,123 @@
+//! Limits of what a client script may hold.
+ghost use Rattle.std.specs.Prelude.{◌≡◌, ◌+◌, ◌<◌, None, nat_le, sum_by, IfSome};
+ghost use Rattle.std.specs.List.{list_all};
+ghost use Rattle.client_scripts.specs.Limits.{capacity_fits, schemes_fit, auth_fits, client_fits, clients_fit, invocation_fits, fuel_of, client_script_fits};
+
+use crate::script::ClientScript;
+use crate::terms::{AuthChoice, AuthSchemes, BucketTerms, ClientObject, InvocationRecord};
+use outside_scripts::{
+    optional_text_fits, optional_texts_fit, records_fit, sources_fit, text_fits, texts_fit,
+};
+
+/// The most tokens of a bucket.
+const CAPACITY_LIMIT: u64 = 500_000_000;
+
+/// The most invocations of a script.
+const INVOCATION_LIMIT: usize = 10_000;
+
+/// The most fuel of a script's invocations together.
+const FUEL_LIMIT: u64 = 100_000;
+
+/// Whether a bucket's capacity is within its limit.
+#[tactic(auto, unfolding(crate::specs::Limits::capacity_fits))]
+pub fn capacity_fits(terms: &BucketTerms) -> bool
+    ensures { result ≡ capacity_fits terms.now }
+{
+    terms.capacity <= CAPACITY_LIMIT
+}
+
+fn capacities_fit(buckets: &[BucketTerms]) -> bool
+    ensures { result ≡ list_all capacity_fits buckets.now }
+{
+    buckets.iter().all(|terms| capacity_fits(terms))
+}
+
+#[tactic(auto, unfolding(crate::specs::Limits::schemes_fit))]
+fn schemes_fit(auth: &AuthSchemes) -> bool
+    ensures { result ≡ schemes_fit auth.now }
+{
+    texts_fit(&auth.options)
+        && texts_fit(&auth.schemes)
+        && sources_fit(auth.identities.as_slice())
+        && optional_texts_fit(&auth.preference)
+}
+
+#[tactic(auto, unfolding(crate::specs::Limits::auth_fits))]
+fn auth_fits(auth: &AuthChoice) -> bool
+    ensures { result ≡ auth_fits auth.now }
+{
+    match auth {
+        AuthChoice::NoAuth => true,
+        AuthChoice::Schemes(schemes) => schemes_fit(schemes),
+    }
+}
+
+/// Whether a client's texts are within their limit.
+#[tactic(auto, unfolding(crate::specs::Limits::client_fits))]
+pub fn client_fits(client: &ClientObject) -> bool
+    ensures { result ≡ client_fits client.now }
+{
+    text_fits(&client.target.service)
+        && text_fits(&client.target.operation)
+        && text_fits(&client.target.url)
+        && optional_text_fits(&client.target.prefix)
+        && auth_fits(&client.auth)
+}
+
+fn clients_fit(clients: &[ClientObject]) -> bool
+    ensures { result ≡ clients_fit clients.now }
+{
+    clients.iter().all(|client| client_fits(client))
+}
+
+#[tactic(auto, unfolding(crate::specs::Limits::invocation_fits))]
+fn invocation_fits(invocation: &InvocationRecord) -> bool
+    ensures { result ≡ invocation_fits invocation.now }
+{
+    records_fit(invocation.responses.as_slice())
+}
+
+fn invocations_fit(invocations: &[InvocationRecord]) -> bool
+    ensures { result ≡ list_all invocation_fits invocations.now }
+{
+    invocations
+        .iter()
+        .all(|invocation| invocation_fits(invocation))
+}
+
+// Whether the invocations' fuel together is within its limit.
+#[tactic(auto, using(crate::proofs::Fuel::fuels))]
+fn fuel_fits(invocations: &[InvocationRecord]) -> bool
+    ensures { result ≡ nat_le (sum_by fuel_of invocations.now) 100000 }
+{
+    let mut room = FUEL_LIMIT;
+    for invocation in invocations {
+        match left_of(room, invocation.fuel) {
+            Some(left) => room = left,
+            None => return false,
+        }
+    }
+    true
+}
+
+// What is left of the room behind an invocation.
+fn left_of(room: u64, fuel: u64) -> Option<u64>
+    ensures some { IfSome result (λ left. left + fuel ≡ room) }
+    ensures none { result ≡ None → room < fuel }
+{
+    room.checked_sub(fuel)
+}
+
+/// Whether capacities, texts, heads, the number of invocations and their fuel are within their
+/// limits.
+#[tactic(auto, unfolding(crate::specs::Limits::client_script_fits))]
+pub fn client_script_fits(script: &ClientScript) -> bool
+    ensures { result ≡ client_script_fits script.now }
+{
+    let invocations = script.invocations.as_slice();
+    capacities_fit(script.buckets.as_slice())
+        && clients_fit(script.clients.as_slice())
+        && invocations_fit(invocations)
+        && invocations.len() <= INVOCATION_LIMIT
+        && fuel_fits(invocations)
+}

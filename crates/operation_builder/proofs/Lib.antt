@@ -1,0 +1,4 @@
+pub mod Alike
+pub mod Merging
+pub mod Prioritizing
+pub mod Refusing

@@ -1,0 +1,7 @@
+pub mod Between
+pub mod Following
+pub mod Endings
+pub mod Reaching
+pub mod ToldAnswers
+pub mod ToldPrints
+pub mod Ended

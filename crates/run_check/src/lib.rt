@@ -1,0 +1,12 @@
+//! Tells whether a text is the print of a whole run and of its answer. The text is read line by
+//! line, its calls are followed along the grammar, and what they come to is printed again.
+#![tactic(auto)]
+
+pub mod ending;
+pub mod failing;
+pub mod follow;
+pub mod judge;
+pub mod laws;
+pub mod told;
+
+pub use judge::{Verdict, check};
