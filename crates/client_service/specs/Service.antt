@@ -1,5 +1,5 @@
 -- The requests and responses of the program's service.
-use Rattle.std.specs.Prelude.{ℕ, Bool, ◌||◌, ◌==◌, nat_lt, if◌then◌else◌, List, [], ◌++◌, Option, None, Some, codes, bytes_eq}
+use Rattle.std.specs.Prelude.{◌≡◌, ℕ, Bool, ◌||◌, ◌==◌, nat_lt, if◌then◌else◌, List, [], ◌++◌, Option, None, Some, codes, bytes_eq}
 use Rattle.std.specs.Fmt.{decimal}
 use Rattle.smithy_types.specs.declared.fault.Outcome.{Outcome}
 use Rattle.smithy_types.specs.declared.fault.Outcome.TheVariants.{Output, Failed}
@@ -11,6 +11,12 @@ use Rattle.smithy_types.specs.declared.http.HttpResponse.{HttpResponse}
 use Rattle.smithy_types.specs.declared.kinds.ErrorKind.{ErrorKind}
 use Rattle.smithy_types.specs.declared.kinds.ErrorKind.TheVariants.{ThrottlingError, TransientError, ServerError}
 use Rattle.smithy_types.specs.declared.payload.Payload.{Payload}
+use Rattle.smithy_types.specs.declared.identity.Identity.{Identity}
+use Rattle.auth_endpoint.specs.declared.scheme.Signed.{Signed}
+use Rattle.auth_endpoint.specs.declared.scheme.Signed.TheVariants.{Request}
+use Rattle.http_schemes.specs.Signing.{SignsByHeader}
+use Rattle.client_service.specs.declared.scheme.ServiceScheme.{ServiceScheme}
+use Rattle.client_service.specs.declared.scheme.ServiceScheme.TheVariants.{NoAuth, Header}
 
 -- an input is posted to the service's root
 abbrev pub posted : Payload → HttpRequest
@@ -40,3 +46,18 @@ kind_of_error bytes =
     else if bytes_eq bytes (codes "transient") then Some TransientError
     else if bytes_eq bytes (codes "server") then Some ServerError
     else None
+
+-- ---- signing
+
+-- of `noAuth` the scheme that signs nothing
+abbrev pub scheme_of : List ℕ → ServiceScheme
+scheme_of id = if bytes_eq id (codes "noAuth") then NoAuth else Header id
+
+abbrev pub id_of : ServiceScheme → List ℕ
+id_of NoAuth = codes "noAuth"
+id_of (Header id) = id
+
+-- the request as it is, or with the header `authorization`
+abbrev pub Signs : ServiceScheme → HttpRequest → Identity → Signed → Type 0
+Signs NoAuth request identity signed = signed ≡ Request request
+Signs (Header id) request identity signed = SignsByHeader (codes "authorization") identity.content request signed

@@ -4,8 +4,10 @@
 
 pub mod deserializer;
 pub mod error;
+pub mod scheme;
 pub mod serializer;
 
 pub use deserializer::ServiceDeserializer;
 pub use error::ServiceError;
+pub use scheme::ServiceScheme;
 pub use serializer::ServiceSerializer;

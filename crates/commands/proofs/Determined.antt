@@ -28,7 +28,8 @@ use Rattle.shell.specs.Sink.{SinkView}
 use Rattle.shell.specs.Source.{SourceView}
 use Rattle.shell.proofs.Determined.{Seen, seen, Told, status_of}
 use Rattle.commands.specs.Laws.{EachScriptIsReplayed, is_printed}
-use Rattle.commands.specs.Replay.{IsReplay, Replays, came_to, replay_says}
+use Rattle.commands.specs.Replay.{IsReplay, Replays, replay_says}
+use Rattle.world_run.specs.Outcome.{came_to}
 use Rattle.world_run.proofs.HadMemories.{ended_had_memory, stopped_had_memory}
 
 same_some : {X : Type 0} (x y : X) → Some x ≡ Some y → x ≡ y

@@ -11,7 +11,8 @@ use Rattle.runcheck.specs.declared.ending.Ending.TheVariants as endings
 use Rattle.scripts.specs.declared.replay.Script.{Script}
 use Rattle.shell.specs.declared.status.PrintStatus.TheVariants as outcomes
 use Rattle.commands.specs.Laws.{ReplaysAreReached}
-use Rattle.commands.specs.Replay.{Replays, came_to}
+use Rattle.commands.specs.Replay.{Replays}
+use Rattle.world_run.specs.Outcome.{came_to}
 
 used_up : (e : Ending) → came_to e ≡ outcomes.Unfinished → e ≡ endings.Unfinished
 used_up (endings.Output payload) h = absurd (cc)

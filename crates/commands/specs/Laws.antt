@@ -14,7 +14,8 @@ use Rattle.shell.specs.Source.{SourceView}
 use Rattle.shell.specs.declared.status.Ended.{Ended}
 use Rattle.shell.specs.declared.status.Ended.TheVariants.{Printed, Refused, Shell}
 use Rattle.shell.specs.declared.status.PrintStatus.TheVariants as outcomes
-use Rattle.commands.specs.Replay.{Replays, came_to, replay_says}
+use Rattle.commands.specs.Replay.{Replays, replay_says}
+use Rattle.world_run.specs.Outcome.{came_to}
 
 -- a whole print was written
 abbrev pub is_printed : Ended → Bool

@@ -6,21 +6,12 @@ use Rattle.run_grammar.specs.declared.answer.Entry.{Entry}
 use Rattle.runcheck.specs.Endings.{Ends}
 use Rattle.runcheck.specs.Print.{run_text}
 use Rattle.runcheck.specs.declared.ending.Ending.{Ending}
-use Rattle.runcheck.specs.declared.ending.Ending.TheVariants as endings
 use Rattle.scripts.specs.Replay.{IsScript, is_within}
 use Rattle.scripts.specs.declared.replay.Script.{Script}
 use Rattle.shell.specs.Said.{Said, prints, refuses}
 use Rattle.shell.specs.declared.status.PrintStatus.{PrintStatus}
-use Rattle.shell.specs.declared.status.PrintStatus.TheVariants as outcomes
 use Rattle.shell.specs.declared.status.Refusal.TheVariants as refusals
-
--- what an ending comes to
-abbrev pub came_to : Ending → PrintStatus
-came_to (endings.Output payload) = outcomes.Ok
-came_to (endings.Stopped request) = outcomes.Ok
-came_to (endings.Error error) = outcomes.SdkError
-came_to endings.Unfinished = outcomes.Unfinished
-came_to (endings.WrongType payload) = outcomes.WrongType
+use Rattle.world_run.specs.Outcome.{came_to}
 
 -- The script's operation ends so over this log, and each answer of the log is what the script gives to its question.
 abbrev pub Replays : Script → List Entry → Ending → Type 0

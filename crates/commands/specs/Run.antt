@@ -11,6 +11,8 @@ use Rattle.shell.specs.declared.status.Ended.TheVariants.{Shell}
 use Rattle.shell.specs.declared.status.ShellStatus.TheVariants as shells
 use Rattle.shell.specs.declared.status.Status.{Status}
 use Rattle.wait_command.specs.Wait.{wait_says}
+use Rattle.client_command.specs.Client.{client_says, make_says}
+use Rattle.waiters_command.specs.Waiters.{waiters_says}
 use Rattle.commands.specs.Check.{check_says}
 use Rattle.commands.specs.Replay.{replay_says}
 use Rattle.commands.specs.declared.help.TheConstants.{HELP, VERSION}
@@ -31,11 +33,12 @@ Does reads sees None ended before after old new = (ended ≡ Shell shells.BadWor
 Does reads sees (Some commands.Help) ended before after old new = Shows sees (tells_text HELP.now) ended before after old new
 Does reads sees (Some commands.Version) ended before after old new = Shows sees (tells_text VERSION.now) ended before after old new
 Does reads sees (Some commands.Replay) ended before after old new = Serves reads sees replay_says ended before after old new
-Does reads sees (Some commands.Client) ended before after old new = Shows sees tells_unbuilt ended before after old new
+Does reads sees (Some commands.Client) ended before after old new = Serves reads sees client_says ended before after old new
 Does reads sees (Some commands.Wait) ended before after old new = Serves reads sees wait_says ended before after old new
+Does reads sees (Some commands.Waiters) ended before after old new = Serves reads sees waiters_says ended before after old new
 Does reads sees (Some commands.Fleet) ended before after old new = Shows sees tells_unbuilt ended before after old new
 Does reads sees (Some commands.Check) ended before after old new = Serves reads sees check_says ended before after old new
-Does reads sees (Some (commands.Make count seed)) ended before after old new = Shows sees tells_unbuilt ended before after old new
+Does reads sees (Some (commands.Make count seed)) ended before after old new = Shows sees (make_says count seed) ended before after old new
 
 -- The command was done, and no count of faults fell.
 abbrev pub Did : {S K : Type 0} → (S → SourceView) → (K → SinkView) → Option Command → Ended → S → S → K → K → Type 0

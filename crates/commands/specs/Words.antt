@@ -32,8 +32,9 @@ one_word w = if is_word (codes "--help") w then Some commands.Help
     else (if is_word (codes "replay") w then Some commands.Replay
     else (if is_word (codes "client") w then Some commands.Client
     else (if is_word (codes "wait") w then Some commands.Wait
+    else (if is_word (codes "waiters") w then Some commands.Waiters
     else (if is_word (codes "fleet") w then Some commands.Fleet
-    else (if is_word (codes "check") w then Some commands.Check else None))))))
+    else (if is_word (codes "check") w then Some commands.Check else None)))))))
 
 abbrev pub command_of : List (List ℕ) → Option Command
 command_of (w ∷ []) = one_word w

@@ -7,11 +7,12 @@ usage: smithy_replay COMMAND
 A command reads its script from standard input and prints to standard output.
 
   replay        replays one run of an operation from a script of answers
-  client        runs clients against a scripted outside (not built yet)
+  client        runs clients against a scripted outside
   wait          runs a waiter over a script
+  waiters       runs many waiters over a script, whose polls one bucket pays for
   fleet         runs clients in threads over one bucket (not built yet)
   check         tells whether its input is the print of a run
-  make N SEED   makes a script of N invocations and runs it; reads nothing (not built yet)
+  make N SEED   makes a script of N invocations and runs it; reads nothing
   --help        prints this text; reads nothing
   --version     prints the version; reads nothing
 
@@ -29,7 +30,7 @@ Exit statuses:
   11  the fuel was used up
   12  the last answer is a payload of another kind
   13  the text is not the print of a run
-  20  the waiter ended with an error
+  20  a waiter ended with an error
 ";
 
 /// What `--version` prints.

@@ -4,7 +4,7 @@ ghost use Rattle.orchestrate.specs.Script.{Spelled};
 ghost use Rattle.runcheck.specs.Endings.{Ends};
 ghost use Rattle.scripts.specs.Replay.{IsScript};
 ghost use Rattle.shell.specs.Said.{said};
-ghost use Rattle.commands.specs.Replay.{IsReplay, script_says, came_to};
+ghost use Rattle.commands.specs.Replay.{IsReplay, script_says};
 
 use json_forms::ReadError;
 use orchestrate::ScriptWorld;
@@ -15,7 +15,7 @@ use shell::command::{Answer, Command};
 use shell::status::{PrintStatus, Refusal};
 use smithy_types::{OutOfMemory, Text};
 use std::alloc::{AllocError, Global};
-use world_run::{PayloadOperation, run_over};
+use world_run::{PayloadOperation, outcome_of, run_over};
 
 /// Replays the script that the input is, and prints the run.
 #[derive(Drop)]
@@ -68,17 +68,4 @@ fn run_script(alloc: Global, head: &RunHead, world: &mut ScriptWorld) -> Result<
 {
     let operation = PayloadOperation::named(Text::new(), Text::new());
     run_over(alloc, &operation, head, world)
-}
-
-// What an ending comes to.
-fn outcome_of(ending: &Ending) -> PrintStatus
-    ensures { result ≡ came_to ending.now }
-{
-    match ending {
-        Ending::Output(_) => PrintStatus::Ok,
-        Ending::Stopped(_) => PrintStatus::Ok,
-        Ending::Error(_) => PrintStatus::SdkError,
-        Ending::Unfinished => PrintStatus::Unfinished,
-        Ending::WrongType(_) => PrintStatus::WrongType,
-    }
 }

@@ -8,6 +8,7 @@ use crate::gate::{Gate, OpenGate};
 use crate::help::{HELP, VERSION};
 use crate::replay::Replay;
 use crate::words::{Command, command_in};
+use client_command::{ClientCommand, MakeCommand};
 use shell::fixed::{Fixed, Unbuilt};
 use shell::serve::{serve, show};
 use shell::sink::Sink;
@@ -18,6 +19,7 @@ use std::alloc::Global;
 use std::sync::Wait;
 use std::thread::Threads;
 use wait_command::WaitCommand;
+use waiters_command::WaitersCommand;
 
 /// Does what the words say.
 pub fn run<R: Threads + Wait + Sync, S: Source, K: Sink>(
@@ -77,11 +79,12 @@ fn ended_alone<S: Source, K: Sink>(
         Some(Command::Help) => show(alloc, &Fixed { text: HELP }, sink),
         Some(Command::Version) => show(alloc, &Fixed { text: VERSION }, sink),
         Some(Command::Replay) => serve(alloc, &Replay, source, sink),
-        Some(Command::Client) => show(alloc, &Unbuilt, sink),
+        Some(Command::Client) => serve(alloc, &ClientCommand, source, sink),
         Some(Command::Wait) => serve(alloc, &WaitCommand, source, sink),
+        Some(Command::Waiters) => serve(alloc, &WaitersCommand, source, sink),
         Some(Command::Fleet) => unreachable!(),
         Some(Command::Check) => serve(alloc, &Check, source, sink),
-        Some(Command::Make { .. }) => show(alloc, &Unbuilt, sink),
+        Some(Command::Make { count, seed }) => show(alloc, &MakeCommand { count, seed }, sink),
         None => Ended::Shell(ShellStatus::BadWords),
     }
 }

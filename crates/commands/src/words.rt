@@ -17,6 +17,8 @@ pub enum Command {
     Client,
     /// Runs a waiter.
     Wait,
+    /// Runs many waiters under one bucket.
+    Waiters,
     /// Runs clients in threads over one bucket.
     Fleet,
     /// Tells whether a text is the print of a run.
@@ -62,6 +64,9 @@ fn named_command(word: &str) -> Option<Command>
     }
     if word == "wait" {
         return Some(Command::Wait);
+    }
+    if word == "waiters" {
+        return Some(Command::Waiters);
     }
     if word == "fleet" {
         return Some(Command::Fleet);

@@ -5,3 +5,4 @@ pub mod Plugins
 pub mod Preparing
 pub mod Priority
 pub mod Refusal
+pub mod Own

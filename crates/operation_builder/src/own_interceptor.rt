@@ -23,31 +23,13 @@ pub enum OwnInterceptor {
 }
 
 impl Intercept for OwnInterceptor {
-    ghost use Rattle.std.specs.Prelude.{◌≡◌, ◌||◌, codes};
-    ghost use Rattle.retry_policy.specs.Interceptors as retries;
-    ghost use Rattle.body_guard.specs.Protection as guards;
-    ghost use Rattle.operation_builder.specs.declared.own_interceptor.OwnInterceptor.TheVariants.{TokenBucket, StalledStream, ConnectionPoisoning, EnforceContentLength};
+    ghost use Rattle.operation_builder.specs.Own.{OwnRuns, own_hooks, own_names};
 
-    ghost names = { elim [
-      | TokenBucket _ ↦ codes "TokenBucketProvider"
-      | StalledStream _ ↦ codes "StalledStreamProtectionInterceptor"
-      | ConnectionPoisoning _ ↦ codes "ConnectionPoisoningInterceptor"
-      | EnforceContentLength _ ↦ codes "EnforceContentLength"
-    ] };
+    ghost names = { own_names };
 
-    ghost hooks = { λ one hook. elim one [
-      | TokenBucket _ ↦ retries.is_before_retry_loop hook
-      | StalledStream _ ↦ guards.is_before_transmit hook || guards.is_before_deserialization hook
-      | ConnectionPoisoning _ ↦ retries.is_before_transmit hook || retries.is_after_deserialization hook
-      | EnforceContentLength _ ↦ guards.is_read_before_transmit hook
-    ] };
+    ghost hooks = { own_hooks };
 
-    ghost runs = { λ old hook view answer new. elim old [
-      | TokenBucket one ↦ (new ≡ TokenBucket one) × (answer ≡ retries.bucket_answer (retries.is_before_retry_loop hook) one.offered)
-      | StalledStream one ↦ (new ≡ StalledStream one) × (answer ≡ guards.protection_answer hook one.sleep one.time view)
-      | ConnectionPoisoning one ↦ (new ≡ ConnectionPoisoning one) × (answer ≡ retries.connection_answer hook one.verdict view)
-      | EnforceContentLength one ↦ (new ≡ EnforceContentLength one) × (answer ≡ guards.enforcing_answer hook view)
-    ] };
+    ghost runs = { OwnRuns };
 
     fn name(&self) -> &str {
         match self {
@@ -83,22 +65,11 @@ impl Intercept for OwnInterceptor {
 }
 
 impl TakeOffer for OwnInterceptor {
-    ghost use Rattle.std.specs.Prelude.{Some};
-    ghost use Rattle.operation_builder.specs.declared.own_interceptor.OwnInterceptor.TheVariants.{TokenBucket, StalledStream, ConnectionPoisoning, EnforceContentLength};
+    ghost use Rattle.operation_builder.specs.Own.{own_with_bucket, own_with_verdict};
 
-    ghost with_bucket = { λ old bucket. elim old [
-      | TokenBucket one ↦ TokenBucket (record one { offered = Some bucket })
-      | StalledStream one ↦ StalledStream one
-      | ConnectionPoisoning one ↦ ConnectionPoisoning one
-      | EnforceContentLength one ↦ EnforceContentLength one
-    ] };
+    ghost with_bucket = { own_with_bucket };
 
-    ghost with_verdict = { λ old verdict. elim old [
-      | TokenBucket one ↦ TokenBucket one
-      | StalledStream one ↦ StalledStream one
-      | ConnectionPoisoning one ↦ ConnectionPoisoning (record one { verdict = verdict })
-      | EnforceContentLength one ↦ EnforceContentLength one
-    ] };
+    ghost with_verdict = { own_with_verdict };
 
     fn offer_bucket(&mut self, bucket: u32) {
         if let OwnInterceptor::TokenBucket(one) = self {

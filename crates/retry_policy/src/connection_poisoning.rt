@@ -80,6 +80,11 @@ impl Intercept for ConnectionPoisoningInterceptor {
 
 /// The same as `new`.
 impl Default for ConnectionPoisoningInterceptor {
+    ghost use Rattle.std.specs.Prelude.{◌≡◌};
+    ghost use Rattle.smithy_types.specs.declared.notes.RetryAction.TheVariants.{NoActionIndicated};
+
+    ghost is_default = { λ interceptor. interceptor.verdict ≡ NoActionIndicated };
+
     fn default() -> ConnectionPoisoningInterceptor {
         ConnectionPoisoningInterceptor::new()
     }

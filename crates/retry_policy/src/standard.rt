@@ -265,6 +265,10 @@ impl<P: Drop> StandardRetryStrategy<P> {
 
 /// The same as `new`.
 impl<P> Default for StandardRetryStrategy<P> {
+    ghost use Rattle.std.specs.Prelude.{◌≡◌, None};
+
+    ghost is_default = { λ strategy. strategy.held ≡ None };
+
     fn default() -> StandardRetryStrategy<P> {
         StandardRetryStrategy::new()
     }

@@ -45,8 +45,8 @@ fn print_begin(alloc: Global, head: &RunHead) -> Result<Json, OutOfMemory>
     Ok(row.finish())
 }
 
-// The lines of the entries, numbered from 1.
-fn print_entries(alloc: Global, entries: &[Entry], out: &mut Vec<u8>) -> Result<(), OutOfMemory>
+/// The lines of the entries, numbered from 1.
+pub fn print_entries(alloc: Global, entries: &[Entry], out: &mut Vec<u8>) -> Result<(), OutOfMemory>
     ensures { OnOk result (out.new.items ≡ out.old.items ++ entries_text 1 entries.now) }
 {
     let mut number = 1;

@@ -32,12 +32,32 @@ fn words_that_are_no_command_are_refused(rt: HostRuntime) -> Result<(), Fail> {
 
 #[test]
 fn commands_that_are_not_built_say_so(rt: HostRuntime) -> Result<(), Fail> {
-    for line in ["client", "fleet", "make 0 7", "make 18446744073709551615 0"] {
+    let words = words_of(rt.alloc(), "fleet")?;
+    let mut source = SureSource::new(Vec::new(rt.alloc()));
+    let mut sink = SureSink::new(rt.alloc());
+    let status = run(&rt, rt.alloc(), words.as_slice(), &mut source, &mut sink);
+    assert_eq!(rt; status, Status::NotBuilt);
+    Ok(())
+}
+
+#[test]
+fn at_most_a_thousand_invocations_are_made(rt: HostRuntime) -> Result<(), Fail> {
+    let rows: [(&str, Status, &str); 3] = [
+        (
+            "make 0 7",
+            Status::Ok,
+            "[\"made\",0,7,0,0,0,[500,0,500,0,0]]\n",
+        ),
+        ("make 1001 7", Status::TooLarge, ""),
+        ("make 18446744073709551615 0", Status::TooLarge, ""),
+    ];
+    for (line, wanted, text) in rows {
         let words = words_of(rt.alloc(), line)?;
         let mut source = SureSource::new(Vec::new(rt.alloc()));
         let mut sink = SureSink::new(rt.alloc());
         let status = run(&rt, rt.alloc(), words.as_slice(), &mut source, &mut sink);
-        assert_eq!(rt; status, Status::NotBuilt, "at {line}");
+        assert_eq!(rt; status, wanted, "at {line}");
+        assert_eq!(rt; sink.bytes.as_slice(), text.as_bytes(), "at {line}");
     }
     Ok(())
 }

@@ -146,8 +146,9 @@ fn is_listed(name: &str) -> bool
         || name == "polls"
 }
 
+/// The words that a waiter draws.
 #[tactic(auto, unfolding(crate::specs::Script::words_at))]
-fn read_words(alloc: Global, value: &Value) -> Result<List<u64>, ReadError>
+pub fn read_words(alloc: Global, value: &Value) -> Result<List<u64>, ReadError>
     ensures { Reads result (words_at (view value.now)) }
 {
     numbers_in(alloc, items(value)?)
@@ -168,8 +169,9 @@ fn numbers_in(alloc: Global, list: &[Value]) -> Result<List<u64>, ReadError>
     Ok(numbers)
 }
 
+/// The polls of a waiter's operation, of which there is one.
 #[tactic(auto, unfolding(crate::specs::Script::polls_at))]
-fn read_polls(alloc: Global, value: &Value) -> Result<List<ScriptedPoll>, ReadError>
+pub fn read_polls(alloc: Global, value: &Value) -> Result<List<ScriptedPoll>, ReadError>
     ensures { Reads result (polls_at (view value.now)) }
 {
     only_some(polls_in(alloc, items(value)?)?)

@@ -1,12 +1,14 @@
 //! A run of an operation over payloads, over any world, and how it ended.
 #![tactic(auto)]
 
-ghost use Rattle.std.specs.Prelude.{IfOk, OnOk};
+ghost use Rattle.std.specs.Prelude.{◌≡◌, IfOk, OnOk};
 ghost use Rattle.orchestrate.specs.Handing.{HandedOn};
 ghost use Rattle.runcheck.specs.Endings.{Ends};
+ghost use Rattle.world_run.specs.Outcome.{came_to};
 
 use orchestrate::{Operation, World, invoke_with_stop_point};
 use runcheck::{Ending, RunHead};
+use shell::status::PrintStatus;
 use smithy_types::{OutOfMemory, Payload, StopPoint};
 use std::alloc::Global;
 
@@ -40,5 +42,18 @@ pub fn run_over<W: World>(
             );
             Ending::of_stopped(answer, head)
         }
+    }
+}
+
+/// What the ending of a run comes to.
+pub fn outcome_of(ending: &Ending) -> PrintStatus
+    ensures { result ≡ came_to ending.now }
+{
+    match ending {
+        Ending::Output(_) => PrintStatus::Ok,
+        Ending::Stopped(_) => PrintStatus::Ok,
+        Ending::Error(_) => PrintStatus::SdkError,
+        Ending::Unfinished => PrintStatus::Unfinished,
+        Ending::WrongType(_) => PrintStatus::WrongType,
     }
 }

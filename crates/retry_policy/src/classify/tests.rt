@@ -56,22 +56,24 @@ impl ProvideErrorKind for NotServed {
     }
 }
 
-/// Asks for a pause of a second where a retry was indicated without one.
+/// Asks for a pause of so many nanoseconds where a retry was indicated without one.
 #[derive(Drop)]
-struct AddsASecond;
+struct AddsAPause {
+    nanos: u64,
+}
 
-impl ClassifyRetry for AddsASecond {
+impl ClassifyRetry for AddsAPause {
     ghost use Rattle.std.specs.Prelude.{codes, pos, None, Some};
     ghost use Rattle.smithy_types.specs.declared.notes.RetryAction.TheVariants.{NoActionIndicated, RetryIndicated, RetryForbidden};
 
-    ghost called = { λ _. codes "a second more" };
+    ghost called = { λ _. codes "a pause" };
 
     ghost ranked = { λ _. pos 30 };
 
-    ghost says = { λ _ _. elim [ NoActionIndicated ↦ NoActionIndicated | RetryIndicated kind retry_after ↦ elim retry_after [ None ↦ RetryIndicated kind (Some 1000000000) | Some pause ↦ NoActionIndicated ] | RetryForbidden ↦ NoActionIndicated ] };
+    ghost says = { λ adds _. elim [ NoActionIndicated ↦ NoActionIndicated | RetryIndicated kind retry_after ↦ elim retry_after [ None ↦ RetryIndicated kind (Some adds.nanos) | Some pause ↦ NoActionIndicated ] | RetryForbidden ↦ NoActionIndicated ] };
 
     fn name(&self) -> &str {
-        "a second more"
+        "a pause"
     }
 
     fn priority(&self) -> i8 {
@@ -81,7 +83,7 @@ impl ClassifyRetry for AddsASecond {
     fn classify_retry_v2(&self, _ctx: &InterceptorContext, previous: &RetryAction) -> RetryAction {
         match *previous {
             RetryAction::RetryIndicated { kind, retry_after } => match retry_after {
-                None => retry_of(kind, Some(1_000_000_000)),
+                None => retry_of(kind, Some(self.nanos)),
                 Some(_) => RetryAction::NoActionIndicated,
             },
             RetryAction::NoActionIndicated => RetryAction::NoActionIndicated,
@@ -172,36 +174,33 @@ fn a_broken_response_and_a_deadline_are_transient(rt: HostRuntime) {
     assert_eq!(rt; said, [transient, transient]);
 }
 
-/// The transient classifier, and two of the caller's behind it.
-fn refined(alloc: Global) -> Result<List<Classifier<NotServed>>, OutOfMemory> {
-    let mut classifiers = List::new();
-    let transient = Classifier::TransientError(TransientErrorClassifier::new());
-    classifiers.push(alloc, transient)?;
-    classifiers.push(alloc, Classifier::Boxed(Box::new(alloc, AddsASecond)?))?;
-    classifiers.push(alloc, Classifier::Boxed(Box::new(alloc, AddsASecond)?))?;
-    Ok(classifiers)
+/// What the transient classifier, where it is asked, and the caller's with these pauses behind it
+/// say of a deadline that passed.
+fn verdict_of(alloc: Global, transient: bool, pauses: &[u64]) -> Result<RetryAction, OutOfMemory> {
+    let mut classifiers: List<Classifier<NotServed>> = List::new();
+    if transient {
+        let own = Classifier::TransientError(TransientErrorClassifier::new());
+        classifiers.push(alloc, own)?;
+    }
+    for nanos in pauses {
+        let refiner = Box::new(alloc, AddsAPause { nanos: *nanos })?;
+        classifiers.push(alloc, Classifier::Boxed(refiner))?;
+    }
+    let ctx = failed(FaultKind::Timeout);
+    Ok(run_classifiers_on_ctx(classifiers.as_slice(), &ctx))
 }
 
-/// What the caller's say alone, what the first of them makes of a transient retry, and what the
-/// second of them makes of that.
-fn verdicts(alloc: Global) -> Result<[RetryAction; 3], OutOfMemory> {
-    let classifiers = refined(alloc)?;
-    let all = classifiers.as_slice();
-    let ctx = failed(FaultKind::Timeout);
-    let mut verdicts = [RetryAction::NoActionIndicated; 3];
-    if all.len() == 3 {
-        verdicts = [
-            run_classifiers_on_ctx(&all[1..], &ctx),
-            run_classifiers_on_ctx(&all[..2], &ctx),
-            run_classifiers_on_ctx(all, &ctx),
-        ];
-    }
-    Ok(verdicts)
-}
+const SECOND: u64 = 1_000_000_000;
 
 #[test]
 fn a_classifier_of_the_callers_refines_what_was_said_before(rt: HostRuntime) {
-    let paused = retry_of(ErrorKind::TransientError, Some(1_000_000_000));
-    let expected = [RetryAction::NoActionIndicated, paused, paused];
-    assert_eq!(rt; verdicts(rt.alloc()), Ok(expected));
+    let alloc = rt.alloc();
+    let five = retry_of(ErrorKind::TransientError, Some(5 * SECOND));
+    let one = retry_of(ErrorKind::TransientError, Some(SECOND));
+    assert_eq!(rt;
+        verdict_of(alloc, false, &[5 * SECOND]),
+        Ok(RetryAction::NoActionIndicated)
+    );
+    assert_eq!(rt; verdict_of(alloc, true, &[5 * SECOND]), Ok(five));
+    assert_eq!(rt; verdict_of(alloc, true, &[SECOND, 5 * SECOND]), Ok(one));
 }

@@ -1,0 +1,5 @@
+pub mod Means
+pub mod Opening
+pub mod Tally
+pub mod Report
+pub mod Client

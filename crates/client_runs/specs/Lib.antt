@@ -1,0 +1,4 @@
+pub mod Means
+pub mod Invoking
+pub mod Print
+pub mod Running

@@ -1,0 +1,63 @@
+//! One invocation of a client's operation.
+ghost use Rattle.std.specs.Prelude.{◌≡◌, IfOk};
+ghost use Rattle.client_runs.specs.Means.{ServedBy};
+ghost use Rattle.client_runs.specs.Invoking.{Invoked, head_of};
+
+use client_scripts::InvocationRecord;
+use retry_parts::TakeOffer;
+use retry_policy::ClassifyRetry;
+use run_grammar::Entry;
+use runcheck::{Ending, RunHead};
+use scripted::ScriptedOutside;
+use scripted_client::{ClientQuota, ScriptedClient};
+use smithy_types::{List, OutOfMemory, Payload, StopPoint};
+use std::alloc::Global;
+use std::mem;
+use world_run::run_over;
+
+/// The kind of a payload that is an output of the service.
+const OUTPUT_KIND: u64 = 1;
+
+/// The kind of a payload that is an error of the service.
+const ERROR_KIND: u64 = 2;
+
+/// Runs the client's operation over this outside and this quota, which come back as the run leaves
+/// them. Answers the run's entries and how it ended.
+pub fn invoke<C: ClassifyRetry, I: TakeOffer>(
+    alloc: Global,
+    client: &mut ScriptedClient<C, I>,
+    outside: &mut ScriptedOutside,
+    quota: &mut ClientQuota,
+    invocation: InvocationRecord,
+) -> Result<(List<Entry>, Ending), OutOfMemory>
+    ensures { IfOk result (λ ran. Invoked (ServedBy C.says (record { names = I.names; hooks = I.hooks; runs = I.runs; with_bucket = I.with_bucket; with_verdict = I.with_verdict })) client.old outside.old quota.old invocation ran.0 ran.1 client.new outside.new quota.new) }
+{
+    let InvocationRecord {
+        input,
+        fuel,
+        stop,
+        responses,
+        ..
+    } = invocation;
+    let head = head_of(input, fuel, stop);
+    outside.begin_invocation(alloc, responses, client.identities.clone()?);
+    client.world.log = List::new();
+    client.world.swap_parts(outside, quota);
+    let ending = run_over(alloc, &client.operation, &head, &mut client.world)?;
+    client.world.swap_parts(outside, quota);
+    let log = mem::replace(&mut client.world.log, List::new());
+    Ok((log, ending))
+}
+
+// What a run of the service's operation is begun with.
+fn head_of(input: Payload, fuel: u64, stop: StopPoint) -> RunHead
+    ensures { result ≡ head_of input fuel stop }
+{
+    RunHead {
+        input,
+        fuel,
+        stop,
+        output_kind: OUTPUT_KIND,
+        error_kind: ERROR_KIND,
+    }
+}

@@ -1,0 +1,106 @@
+-- The parts of a client that a script describes.
+use Rattle.std.specs.Prelude.{◌≡◌, ℕ, Bool, true, false, List, [], ◌∷◌, ◌++◌, map, Option, None, Some, option_map, option_to_list}
+use Rattle.auth_parts.specs.declared.sources.IdentitySource.TheVariants.{Outside}
+use Rattle.auth_parts.specs.declared.sources.RegisteredSource.{RegisteredSource}
+use Rattle.client_scripts.specs.declared.terms.AuthChoice.{AuthChoice}
+use Rattle.client_scripts.specs.declared.terms.AuthChoice.TheVariants as auths
+use Rattle.client_scripts.specs.declared.terms.ClassifierChoice.{ClassifierChoice}
+use Rattle.client_scripts.specs.declared.terms.ClassifierChoice.TheVariants.{Modeled, Transient, Status}
+use Rattle.client_scripts.specs.declared.terms.RetryChoice.{RetryChoice}
+use Rattle.client_scripts.specs.declared.terms.RetryChoice.TheVariants as retries
+use Rattle.client_service.specs.Service.{scheme_of}
+use Rattle.client_service.specs.declared.error.ServiceError.{ServiceError}
+use Rattle.client_service.specs.declared.scheme.ServiceScheme.{ServiceScheme}
+use Rattle.identity_cell.specs.declared.identity_cache.SharedIdentityCache.TheVariants.{NoCache}
+use Rattle.identity_cell.specs.declared.no_auth.NoAuthIdentityResolver.{NoAuthIdentityResolver}
+use Rattle.operation_builder.specs.Built.{wanted}
+use Rattle.operation_builder.specs.ClientLayer.{putting}
+use Rattle.operation_builder.specs.Plugins.{no_draft}
+use Rattle.operation_builder.specs.declared.builder.AuthOptions.TheVariants as options
+use Rattle.operation_builder.specs.declared.builder.StrategyKind.{StrategyKind}
+use Rattle.operation_builder.specs.declared.builder.StrategyKind.TheVariants as kinds
+use Rattle.operation_builder.specs.declared.plugin.Plugin.{Plugin}
+use Rattle.operation_builder.specs.declared.plugin.Plugin.TheVariants.{Static, EnforceContentLength}
+use Rattle.operation_builder.specs.declared.scheme.IdentityResolver.{IdentityResolver}
+use Rattle.operation_builder.specs.declared.scheme.Scheme.{Scheme}
+use Rattle.operation_builder.specs.declared.scheme.Scheme.TheVariants.{Brought}
+use Rattle.rate_limit.specs.Pace.{Pace, zero_pace}
+use Rattle.retry_policy.specs.declared.classify.Classifier.{Classifier}
+use Rattle.retry_policy.specs.declared.classify.Classifier.TheVariants as classifiers
+use Rattle.retry_quota.specs.Registers.{GivesNumbers, Registers}
+use Rattle.scripted.specs.declared.records.IdentityRecord.{IdentityRecord}
+use Rattle.smithy_context.specs.Layer.{entry, put_entry}
+use Rattle.smithy_context.specs.declared.layer.LayerEntry.{LayerEntry}
+use Rattle.smithy_context.specs.declared.setting.Setting.TheVariants as set
+use Rattle.smithy_context.specs.declared.setting.SettingKey.TheVariants as keys
+use Rattle.smithy_types.specs.declared.config.RetryConfig.{RetryConfig}
+use Rattle.smithy_types.specs.declared.partition.CustomPartition.{CustomPartition}
+use Rattle.smithy_types.specs.declared.partition.RetryPartition.{RetryPartition}
+use Rattle.scripted_client.specs.declared.auth.AuthParts.{AuthParts}
+use Rattle.scripted_client.specs.declared.auth.AuthTerms.{AuthTerms}
+
+-- ---- retries
+
+abbrev pub classifier_of : {V : Type 0} {v : V → Type 0} → ClassifierChoice → Classifier ServiceError V v
+classifier_of Modeled = classifiers.ModeledAsRetryable (record { error = record {} })
+classifier_of Transient = classifiers.TransientError (record { error = record {} })
+classifier_of (Status codes) = classifiers.HttpStatusCode (record { codes = codes })
+
+abbrev pub strategy_of : RetryChoice → StrategyKind
+strategy_of retries.Never = kinds.Never
+strategy_of (retries.Standard retry) = kinds.Standard
+
+abbrev pub retry_of : RetryChoice → Option RetryConfig
+retry_of retries.Never = None
+retry_of (retries.Standard retry) = Some retry
+
+-- ---- signing
+
+-- each scheme by its id
+abbrev pub scheme_named : List ℕ → Scheme ServiceScheme
+scheme_named id = Brought (scheme_of id)
+
+-- each identity comes from the outside
+abbrev pub source_of : IdentityRecord → RegisteredSource (IdentityResolver NoAuthIdentityResolver)
+source_of i = record { id = i.id; source = Outside }
+
+abbrev pub auth_parts_of : AuthChoice → AuthParts
+auth_parts_of auths.NoAuth = record { no_auth = true; options = options.NoAuth; schemes = []; sources = []; cache = NoCache }
+auth_parts_of (auths.Schemes a) = record {
+  no_auth = false;
+  options = options.Listed a.options;
+  schemes = map scheme_named a.schemes;
+  sources = map source_of a.identities;
+  cache = a.cache;
+}
+
+abbrev pub auth_terms_of : AuthChoice → AuthTerms
+auth_terms_of auths.NoAuth = record { preference = None; identities = [] }
+auth_terms_of (auths.Schemes a) = record { preference = a.preference; identities = a.identities }
+
+abbrev pub identities_of : AuthChoice → List IdentityRecord
+identities_of auth = (auth_terms_of auth).identities
+
+-- ---- settings
+
+-- V2 is unset where it is off
+abbrev pub with_v2 : Bool → List LayerEntry → List LayerEntry
+with_v2 true l = l
+with_v2 false l = put_entry l (entry keys.V2 None)
+
+-- a custom partition, a prefix and a preference, each where there is one, and whether V2 is on
+unfoldable pub plugin_layer : Option RetryPartition → Option (List ℕ) → Option (List (List ℕ)) → Bool → List LayerEntry
+plugin_layer partition prefix preference v2 =
+    with_v2 v2 (putting (option_map set.Preference preference) (putting (option_map set.Prefix prefix) (putting (option_map set.Partition partition) [])))
+
+abbrev pub plugins_of : List LayerEntry → Bool → List Plugin
+plugins_of layer enforce = Static layer no_draft ∷ option_to_list (wanted enforce EnforceContentLength)
+
+-- ---- partitions
+
+-- the service's custom partition with the bucket of this number, and a limiter of its own that is added; or none
+abbrev pub PartitionOf : List ℕ → Option ℕ → Registers Pace → Option RetryPartition → Registers Pace → Type 0
+PartitionOf service None old partition new = (partition ≡ None) × (new ≡ old)
+PartitionOf service (Some bucket) old None new = ⊥
+PartitionOf service (Some bucket) old (Some partition) new =
+    (partition.name ≡ service) × (numbers : CustomPartition) × (partition.custom ≡ Some numbers) × GivesNumbers zero_pace old (Some bucket) None numbers new

@@ -1,0 +1,15 @@
+pub mod Calls
+pub mod Events
+pub mod Fleet
+pub mod Acts
+pub mod Plans
+pub mod Steps
+pub mod Seats
+pub mod Laws
+pub mod Notes
+pub mod Paying
+pub mod Turns
+pub mod Schedules
+pub mod Fleets
+pub mod Waiting
+pub mod Walks

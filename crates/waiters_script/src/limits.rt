@@ -1,0 +1,23 @@
+//! The limits of a script's numbers.
+ghost use Rattle.std.specs.Prelude.{◌≡◌};
+ghost use Rattle.waiters_script.specs.Script.{is_within};
+
+use crate::terms::WaitersScript;
+
+/// The most fuel of a script.
+const FUEL_LIMIT: u64 = 100_000;
+
+/// The most waiters of a script.
+const WAITERS_LIMIT: usize = 64;
+
+/// The most tokens of its bucket.
+const CAPACITY_LIMIT: u64 = 500_000_000;
+
+/// Whether the fuel, the waiters and the bucket's capacity are within their limits.
+pub fn is_within(script: &WaitersScript) -> bool
+    ensures { result ≡ is_within script.now }
+{
+    script.fuel <= FUEL_LIMIT
+        && script.waiters.len() <= WAITERS_LIMIT
+        && script.bucket.capacity <= CAPACITY_LIMIT
+}
