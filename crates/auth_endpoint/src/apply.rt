@@ -1,8 +1,11 @@
 //! A URI at an endpoint.
-ghost use Rattle.std.specs.Prelude.{◌≡◌, ◌++◌, [], IfOk, IfErr, OnOk, unwrap_or, option_copied, codes};
+ghost use Rattle.std.specs.Prelude.{◌≡◌, ◌++◌, [], IfOk, IfErr, OnOk, unwrap_or, option_copied};
+ghost use Rattle.std.specs.Prelude.{codes};
 ghost use Rattle.http_uri.specs.Uri.{Spells, SpellsNone, uri_authority};
 ghost use Rattle.http_uri.specs.Grammar.{IsAuthority};
-ghost use Rattle.auth_endpoint.specs.Endpoint.{HasCause, joined_authority, without_last_slash, without_first_slash, merged_path, query_text, whole_text, IsApplied, CantApply};
+ghost use Rattle.auth_endpoint.specs.Endpoint.{HasCause, joined_authority, without_last_slash};
+ghost use Rattle.auth_endpoint.specs.Endpoint.{without_first_slash, merged_path, query_text};
+ghost use Rattle.auth_endpoint.specs.Endpoint.{whole_text, IsApplied, CantApply};
 
 use crate::EndpointError;
 use bytes::Bytes;

@@ -1,6 +1,7 @@
 //! The choice of an auth scheme among the options.
 ghost use Rattle.std.specs.Prelude.{◌≡◌, not, IfOk, IfErr, OnErr, option_copied};
-ghost use Rattle.auth_endpoint.specs.Choice.{is_named, is_unlisted, schemes_of, lack_of, IsChosen, NoneChosen};
+ghost use Rattle.auth_endpoint.specs.Choice.{is_named, is_unlisted, schemes_of, lack_of, IsChosen};
+ghost use Rattle.auth_endpoint.specs.Choice.{NoneChosen};
 ghost use Rattle.auth_endpoint.specs.declared.explored.NoMatchingAuthSchemeError.TheVariants.{Explored};
 
 use crate::{ExploreResult, ExploredList, NO_AUTH_SCHEME_ID, NoMatchingAuthSchemeError};

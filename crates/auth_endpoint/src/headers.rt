@@ -4,7 +4,9 @@ ghost use Rattle.http_header.specs.HeaderMap.{append, RefusesAppend};
 ghost use Rattle.http_header.specs.FieldValue.{IsFieldValue, plain_value};
 ghost use Rattle.http_header.specs.FieldName.{IsFieldName};
 ghost use Rattle.http_header.specs.Token.{lowercase};
-ghost use Rattle.auth_endpoint.specs.Endpoint.{HasCause, RefusesSome, with_value, RefusesValue, with_header, RefusesHeader, with_headers, RefusesHeaders};
+ghost use Rattle.auth_endpoint.specs.Endpoint.{HasCause, RefusesSome, with_value, RefusesValue};
+ghost use Rattle.auth_endpoint.specs.Endpoint.{with_header, RefusesHeader, with_headers};
+ghost use Rattle.auth_endpoint.specs.Endpoint.{RefusesHeaders};
 
 use crate::EndpointError;
 use http_header::{

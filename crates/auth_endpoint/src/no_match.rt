@@ -2,7 +2,11 @@
 ghost use Rattle.std.specs.Prelude.{◌≡◌, flat_map, Some};
 ghost use Rattle.std.specs.List.{list_all, list_any};
 ghost use Rattle.std.specs.Fmt.{WritesOnOk};
-ghost use Rattle.auth_endpoint.specs.Texts.{lacks_scheme, lacks_resolver, is_bug, is_no_auth, reason_text, option_text, advice_text, opt_out_text, truncated_text, opening_text, no_options_text, no_schemes_text, parts_text, explored_text, no_match_text};
+ghost use Rattle.auth_endpoint.specs.Texts.{lacks_scheme, lacks_resolver, is_bug, is_no_auth};
+ghost use Rattle.auth_endpoint.specs.Texts.{reason_text, option_text, advice_text, opt_out_text};
+ghost use Rattle.auth_endpoint.specs.Texts.{truncated_text, opening_text, no_options_text};
+ghost use Rattle.auth_endpoint.specs.Texts.{no_schemes_text, parts_text, explored_text};
+ghost use Rattle.auth_endpoint.specs.Texts.{no_match_text};
 
 use crate::{
     ExploreResult, ExploredAuthOption, ExploredList, NO_AUTH_SCHEME_ID, NoMatchingAuthSchemeError,

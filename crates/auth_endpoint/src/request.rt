@@ -1,7 +1,8 @@
 //! A request at an endpoint.
 ghost use Rattle.std.specs.Prelude.{◌≡◌, OnOk, OnErr, IfOk, IfErr, option_copied};
 ghost use Rattle.http_uri.specs.Uri.{Spells, SpellsNone, uri_text};
-ghost use Rattle.auth_endpoint.specs.Endpoint.{HasCause, CantApply, Reading, IsAppliedText, CantRead, IsSent, CantSend};
+ghost use Rattle.auth_endpoint.specs.Endpoint.{HasCause, CantApply, Reading, IsAppliedText};
+ghost use Rattle.auth_endpoint.specs.Endpoint.{CantRead, IsSent, CantSend};
 
 use crate::EndpointError;
 use crate::apply::apply_endpoint;

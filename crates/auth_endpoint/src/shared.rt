@@ -19,7 +19,8 @@ pub enum SharedAuthScheme {
 impl AuthScheme for SharedAuthScheme {
     ghost use Rattle.std.specs.Prelude.{◌≡◌, codes};
     ghost use Rattle.auth_endpoint.specs.declared.scheme.Signed.TheVariants.{Request};
-    ghost use Rattle.auth_endpoint.specs.declared.shared.SharedAuthScheme.TheVariants.{NoAuth, Boxed};
+    ghost use Rattle.auth_endpoint.specs.declared.shared.SharedAuthScheme.TheVariants.{NoAuth};
+    ghost use Rattle.auth_endpoint.specs.declared.shared.SharedAuthScheme.TheVariants.{Boxed};
 
     ghost names = { elim [
       | NoAuth _ ↦ codes "noAuth"
@@ -78,7 +79,8 @@ fn poll_box(
 impl ResolveIdentity for SharedIdentityResolver {
     ghost use Rattle.std.specs.Prelude.{◌≡◌, [], None};
     ghost use Rattle.outside.specs.declared.answers.IdentityPoll.TheVariants.{Ready};
-    ghost use Rattle.auth_endpoint.specs.declared.shared.SharedIdentityResolver.TheVariants.{NoAuth, Boxed};
+    ghost use Rattle.auth_endpoint.specs.declared.shared.SharedIdentityResolver.TheVariants.{NoAuth};
+    ghost use Rattle.auth_endpoint.specs.declared.shared.SharedIdentityResolver.TheVariants.{Boxed};
 
     ghost polls = { λ old answer new. elim old [
       | NoAuth r ↦ (answer ≡ Ready (record { content = []; expiration = None }))

@@ -65,6 +65,9 @@ fn listed(
         }
     }
     if let Err(error) = applied {
+        if error == EndpointError::OutOfMemory {
+            return Err(OutOfMemory);
+        }
         text.extend_from_slice(b" ")?;
         text.extend_from_slice(error.to_string(alloc)?.as_bytes())?;
     }

@@ -10,21 +10,17 @@ use std::alloc::Global;
 fn said(alloc: Global, applied: Result<Uri, EndpointError>) -> Result<String, OutOfMemory> {
     match applied {
         Ok(uri) => Ok(uri.to_string(alloc)?),
+        Err(EndpointError::OutOfMemory) => Err(OutOfMemory),
         Err(error) => Ok(error.to_string(alloc)?),
     }
 }
 
 // The URI at the endpoint, or the name of the refusal.
-fn at(
-    alloc: Global,
-    endpoint: &str,
-    uri: &str,
-    prefix: Option<&str>,
-) -> Result<String, OutOfMemory> {
-    match (Uri::from_str(alloc, uri), Uri::from_str(alloc, endpoint)) {
-        (Ok(uri), Ok(endpoint)) => said(alloc, apply_endpoint(alloc, &uri, &endpoint, prefix)),
-        _ => Ok(String::new(alloc)),
-    }
+fn at(alloc: Global, endpoint: &str, uri: &str, prefix: Option<&str>) -> Told<String> {
+    let uri = Uri::from_str(alloc, uri)?;
+    let endpoint = Uri::from_str(alloc, endpoint)?;
+    let text = said(alloc, apply_endpoint(alloc, &uri, &endpoint, prefix))?;
+    Ok(text)
 }
 
 // A path of so many bytes.

@@ -53,7 +53,8 @@ fn apply_to(
 
 // The failure that tells of a refusal.
 fn refused(refusal: EndpointError) -> Result<Answer, OutOfMemory>
-    ensures { IfOk result (λ a. (a ≡ Answer.Failed (refusal_text refusal)) × IsTrue (is_refusal refusal)) }
+    ensures { IfOk result (λ a. (a ≡ Answer.Failed (refusal_text refusal))
+        × IsTrue (is_refusal refusal)) }
 {
     match refusal {
         EndpointError::BadUrl => Ok(Answer::Failed(Text::from_static("BadUrl"))),

@@ -58,8 +58,10 @@ pub fn choose_cached<X: Outside, A: AuthScheme, R: ResolveIdentity>(
     settings: &Settings,
 ) -> Result<Answer, OutOfMemory>
     ensures { IfOk result (λ a. (calls : _) × Chained X.makes outside.old calls outside.new
-        × ChoosesCached R.polls A.names options.now schemes.now endpoint.now time_source settings.now
-        sources.old cache.old current.old load.old a sources.new cache.new current.new load.new calls) }
+        × ChoosesCached R.polls A.names options.now schemes.now endpoint.now time_source
+        settings.now
+        sources.old cache.old current.old load.old a sources.new cache.new current.new load.new
+        calls) }
 {
     let before = endpoint_before(endpoint, settings)?;
     match pick(alloc, options, schemes, sources, &before, settings)? {
@@ -109,7 +111,8 @@ fn resolve_cached<X: Outside, R: ResolveIdentity>(
 ) -> Result<Answer, OutOfMemory>
     ensures { IfOk result (λ a. (calls : _) × Chained X.makes outside.old calls outside.new
         × ResolvesCached R.polls time_source settings.now id endpoint
-        sources.old cache.old current.old load.old a sources.new cache.new current.new load.new calls) }
+        sources.old cache.old current.old load.old a sources.new cache.new current.new load.new
+        calls) }
 {
     match open_load(alloc, time_source, cache, current, outside, settings, &id)? {
         Opened::Hit(identity) => chosen(alloc, id, identity, endpoint, ChooseNote::Hit),
@@ -132,7 +135,8 @@ fn open_load<X: Outside>(
     id: &Text,
 ) -> Result<Opened, OutOfMemory>
     ensures { IfOk result (λ found. (calls : _) × Chained X.makes outside.old calls outside.new
-        × OpensLoad time_source settings.now id.now cache.old current.old found cache.new current.new calls) }
+        × OpensLoad time_source settings.now id.now cache.old current.old found cache.new
+        current.new calls) }
 {
     match current {
         Some(_) => Ok(Opened::Load),
@@ -181,8 +185,17 @@ fn begin_load<X: Outside>(
 ) -> Result<(), OutOfMemory>
     ensures { OnOk result ((sleep : Option ℕ)
         × (cache.new ≡ cache.old)
-        × (current.new ≡ Some (record { id = scheme; ticket = ticket; asked_at = now; timeout = timeout_by cache.old.terms settings.now; sleep = sleep }))
-        × Chained X.makes outside.old (OfTimers (Start (timeout_by cache.old.terms settings.now) (Ok sleep)) ∷ []) outside.new) }
+        × (current.new ≡ Some (record {
+          id = scheme;
+          ticket = ticket;
+          asked_at = now;
+          timeout = timeout_by cache.old.terms
+              settings.now;
+          sleep = sleep;
+        }))
+        × Chained X.makes outside.old
+        (OfTimers (Start (timeout_by cache.old.terms settings.now) (Ok sleep)) ∷ [])
+        outside.new) }
 {
     let begun = cache.open(alloc, outside, scheme, ticket, now, settings)?;
     *current = Some(begun);
@@ -221,7 +234,8 @@ fn go_on<X: Outside, R: ResolveIdentity>(
 ) -> Result<Answer, OutOfMemory>
     ensures { IfOk result (λ a. (calls : _) × Chained X.makes outside.old calls outside.new
         × GoesOnLoading R.polls id endpoint
-        sources.old cache.old current.old load.old a sources.new cache.new current.new load.new calls) }
+        sources.old cache.old current.old load.old a sources.new cache.new current.new load.new
+        calls) }
 {
     let polled = ask_registered(alloc, sources, load, outside, &id)?;
     let answer = go_on_with(alloc, polled, cache, current, load, outside, id, endpoint)?;
@@ -240,7 +254,8 @@ fn go_on_with<X: Outside>(
     endpoint: Option<Shared<Endpoint>>,
 ) -> Result<Answer, OutOfMemory>
     ensures { IfOk result (λ a. (calls : _) × Chained X.makes outside.old calls outside.new
-        × Continues id endpoint polled cache.old current.old load.old a cache.new current.new load.new calls) }
+        × Continues id endpoint polled cache.old current.old load.old a cache.new current.new
+        load.new calls) }
 {
     let Some(answer) = polled else {
         return Ok(Answer::Absent);

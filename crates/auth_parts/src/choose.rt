@@ -1,10 +1,13 @@
 //! Choose, without a cache of identities.
-ghost use Rattle.std.specs.Prelude.{◌≡◌, None, Some, IfOk, OnErr, MatchOption, map, position, option_copied};
+ghost use Rattle.std.specs.Prelude.{◌≡◌, None, Some, IfOk, OnErr, MatchOption, map, position};
+ghost use Rattle.std.specs.Prelude.{option_copied};
 ghost use Rattle.auth_endpoint.specs.Choice.{is_id, lack_of, reprioritized, schemes_of};
 ghost use Rattle.auth_parts.specs.Reading.{standing_preference};
 ghost use Rattle.auth_endpoint.specs.Texts.{no_match_text};
 ghost use Rattle.smithy_types.specs.Chain.{Chained};
-ghost use Rattle.auth_parts.specs.Choosing.{Asks, Chooses, Picks, PicksAmong, Resolves, ending_load, endpoint_before, is_outside, is_pending, no_load};
+ghost use Rattle.auth_parts.specs.Choosing.{Asks, Chooses, Picks, PicksAmong, Resolves};
+ghost use Rattle.auth_parts.specs.Choosing.{ending_load, endpoint_before, is_outside, is_pending};
+ghost use Rattle.auth_parts.specs.Choosing.{no_load};
 
 use crate::reading::{has_v2, standing_preference};
 use crate::sources::{IdentitySource, RegisteredSource, ask_source, source_ids};
@@ -65,7 +68,8 @@ pub fn choose<X: Outside, A: AuthScheme, R: ResolveIdentity>(
     settings: &Settings,
 ) -> Result<Answer, OutOfMemory>
     ensures { IfOk result (λ a. (calls : _) × Chained X.makes outside.old calls outside.new
-        × Chooses A.names R.polls options.now schemes.now endpoint.now settings.now sources.old load.old a sources.new load.new calls) }
+        × Chooses A.names R.polls options.now schemes.now endpoint.now settings.now sources.old
+        load.old a sources.new load.new calls) }
 {
     let before = endpoint_before(endpoint, settings)?;
     match pick(alloc, options, schemes, sources, &before, settings)? {
@@ -96,7 +100,8 @@ pub(crate) fn pick<A: AuthScheme, R: ResolveIdentity>(
     endpoint: &Option<Shared<Endpoint>>,
     settings: &Settings,
 ) -> Result<Picked, OutOfMemory>
-    ensures { IfOk result (λ p. Picks (map A.names schemes.now) (map (λ s. s.id) sources.now) options.now endpoint.now settings.now p) }
+    ensures { IfOk result (λ p. Picks (map A.names schemes.now) (map (λ s. s.id) sources.now)
+        options.now endpoint.now settings.now p) }
 {
     let ordered = in_order(alloc, options, settings)?;
     let names = scheme_ids(alloc, schemes)?;
@@ -130,7 +135,8 @@ fn pick_among(
     ids: &List<Text>,
     endpoint: &Option<Shared<Endpoint>>,
 ) -> Result<Picked, OutOfMemory>
-    ensures { IfOk result (λ p. PicksAmong (lack_of names.now ids.now (schemes_of endpoint.now)) ordered.now p) }
+    ensures { IfOk result (λ p. PicksAmong (lack_of names.now ids.now (schemes_of endpoint.now))
+        ordered.now p) }
 {
     match auth_endpoint::choose(alloc, ordered, names, ids, lent(endpoint)) {
         Ok(place) => Ok(Picked::Scheme(ordered.as_slice()[place.index].clone()?)),
@@ -146,7 +152,9 @@ fn lent(endpoint: &Option<Shared<Endpoint>>) -> Option<&Endpoint>
 
 // The failure that says why no option was chosen.
 fn refused(alloc: Global, error: NoMatchingAuthSchemeError) -> Result<Picked, OutOfMemory>
-    ensures { IfOk result (λ p. (explored : _) × (error ≡ NoMatchingAuthSchemeError.Explored explored) × (p ≡ Picked.Refused (no_match_text error))) }
+    ensures { IfOk result (λ p. (explored : _)
+        × (error ≡ NoMatchingAuthSchemeError.Explored explored)
+        × (p ≡ Picked.Refused (no_match_text error))) }
 {
     if matches!(&error, NoMatchingAuthSchemeError::OutOfMemory) {
         return Err(OutOfMemory);
@@ -202,7 +210,8 @@ pub(crate) fn ask_registered<X: Outside, R: ResolveIdentity>(
     id: &Text,
 ) -> Result<Option<IdentityPoll>, OutOfMemory>
     ensures { IfOk result (λ polled. (calls : _) × Chained X.makes outside.old calls outside.new
-        × Asks R.polls id.now (position (λ s. is_id id.now s.id) sources.old) sources.old load.old polled sources.new load.new calls) }
+        × Asks R.polls id.now (position (λ s. is_id id.now s.id) sources.old) sources.old load.old
+        polled sources.new load.new calls) }
 {
     let Some(place) = place_of(sources, id) else {
         return Ok(None);

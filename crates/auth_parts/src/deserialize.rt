@@ -17,7 +17,8 @@ pub fn stream<D: DeserializeResponse>(
     response: &Option<Shared<HttpResponse>>,
     settings: &Settings,
 ) -> Result<Answer, OutOfMemory>
-    ensures { IfOk result (λ a. Streams D.streams deserializer.now may_stream response.now settings.now a) }
+    ensures { IfOk result (λ a. Streams D.streams deserializer.now may_stream response.now
+        settings.now a) }
 {
     let Some(response) = response else {
         return Ok(Answer::Absent);
@@ -46,7 +47,8 @@ pub fn deserialize<D: DeserializeResponse>(
     response: &Option<Shared<HttpResponse>>,
     settings: &Settings,
 ) -> Result<Answer, OutOfMemory>
-    ensures { IfOk result (λ a. Deserializes D.deserializes deserializer.now response.now settings.now a) }
+    ensures { IfOk result (λ a. Deserializes D.deserializes deserializer.now response.now
+        settings.now a) }
 {
     let Some(response) = response else {
         return Ok(Answer::Absent);

@@ -40,6 +40,7 @@ pub trait DeserializeResponse: Drop {
 /// The deserializer that a caller brings.
 #[derive(Drop)]
 pub enum Deserializer {
+    /// A box that the caller brings.
     Boxed(Box<dyn DeserializeResponse>),
 }
 

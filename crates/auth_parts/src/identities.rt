@@ -67,8 +67,8 @@ impl<R: ResolveIdentity> Identities<R> {
         self.cached.is_some()
     }
 
-    /// How many loads were begun into the cache, those too that failed or were given up. It stops at
-    /// `u64::MAX`. Without a cache 0.
+    /// How many loads were begun into the cache, those too that failed or were given up. It stops
+    /// at `u64::MAX`. Without a cache 0.
     pub fn loads(&self) -> u64
         ensures { result ≡ loads_of self.now.cached }
     {
@@ -78,7 +78,8 @@ impl<R: ResolveIdentity> Identities<R> {
         }
     }
 
-    /// Chooses a scheme among the options, and takes its identity from the cache or from its source.
+    /// Chooses a scheme among the options, and takes its identity from the cache or from its
+    /// source.
     pub fn choose<X: Outside, A: AuthScheme>(
         &mut self,
         alloc: Global,
@@ -90,7 +91,8 @@ impl<R: ResolveIdentity> Identities<R> {
         settings: &Settings,
     ) -> Result<Answer, OutOfMemory>
         ensures { IfOk result (λ a. (calls : _) × Chained X.makes outside.old calls outside.new
-            × ChoosesBy A.names R.polls options.now schemes.now endpoint.now time_source settings.now
+            × ChoosesBy A.names R.polls options.now schemes.now endpoint.now time_source
+            settings.now
             self.old.cached self.old a self.new calls) }
     {
         let sources = self.sources.as_mut_slice();

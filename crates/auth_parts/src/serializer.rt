@@ -36,6 +36,7 @@ pub trait SerializeRequest: Drop {
 /// The serializer that a caller brings.
 #[derive(Drop)]
 pub enum Serializer {
+    /// A box that the caller brings.
     Boxed(Box<dyn SerializeRequest>),
 }
 

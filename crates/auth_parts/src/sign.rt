@@ -18,7 +18,8 @@ pub fn sign<A: AuthScheme>(
     identity: &Option<Shared<Identity>>,
     endpoint: &Option<Shared<Endpoint>>,
 ) -> Result<Answer, OutOfMemory>
-    ensures { IfOk result (λ a. Signs A.names A.signs schemes.now request.now id.now identity.now endpoint.now a) }
+    ensures { IfOk result (λ a. Signs A.names A.signs schemes.now request.now id.now identity.now
+        endpoint.now a) }
 {
     let Some(request) = request else {
         return Ok(Answer::Absent);
@@ -50,7 +51,8 @@ fn sign_by<A: AuthScheme>(
     identity: &Identity,
     endpoint: &Endpoint,
 ) -> Result<Answer, OutOfMemory>
-    ensures { IfOk result (λ a. SignsBy A.names A.signs schemes.now id.now request.now identity.now endpoint.now a) }
+    ensures { IfOk result (λ a. SignsBy A.names A.signs schemes.now id.now request.now identity.now
+        endpoint.now a) }
 {
     let Some(place) = place_of(schemes, id) else {
         return Ok(Answer::Absent);

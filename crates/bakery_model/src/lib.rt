@@ -1,5 +1,5 @@
-//! The model of a bakery's service, as a code generator would write it: what its two operations take
-//! and answer, the error that both share, and the payloads that these are.
+//! The model of a bakery's service, as a code generator would write it: what its two operations
+//! take and answer, the error that both share, and the payloads that these are.
 #![tactic(auto)]
 
 mod model;

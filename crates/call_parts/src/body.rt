@@ -1,7 +1,8 @@
 //! Body: the open response's body is read to its end.
 ghost use Rattle.std.specs.Prelude.{◌≡◌, IfOk};
 ghost use Rattle.smithy_types.specs.Chain.{ByCalls, Chained};
-ghost use Rattle.call_parts.specs.Reading.{Asks, ClosesAs, Opens, ReadsOn, Reads, Runs, closing, failed_call};
+ghost use Rattle.call_parts.specs.Reading.{Asks, ClosesAs, Opens, ReadsOn, Reads, Runs, closing};
+ghost use Rattle.call_parts.specs.Reading.{failed_call};
 
 use crate::reading::polled_of;
 use crate::{Call, Reading, Stop};

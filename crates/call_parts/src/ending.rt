@@ -1,7 +1,8 @@
 //! What is open is ended, and what is pending is given up.
 ghost use Rattle.std.specs.Prelude.{◌≡◌};
 ghost use Rattle.smithy_types.specs.Chain.{Chained};
-ghost use Rattle.call_parts.specs.Ending.{abandoning, call_without, ending_call, ending_calls, sleeps_without};
+ghost use Rattle.call_parts.specs.Ending.{abandoning, call_without, ending_call, ending_calls};
+ghost use Rattle.call_parts.specs.Ending.{sleeps_without};
 ghost use Rattle.call_parts.specs.Sleeping.{no_sleeps};
 
 use crate::sleeping::{end_all_sleeps, end_role};

@@ -1,7 +1,8 @@
 //! The guards that a response's body is read through.
 ghost use Rattle.std.specs.Prelude.{◌≡◌, IfOk};
 ghost use Rattle.smithy_types.specs.Chain.{ByCalls, Chained};
-ghost use Rattle.call_parts.specs.Guarding.{GuardsLength, GuardsThroughput, LengthPasses, Passes, SetsUp, ThroughputPasses, stopped, stopping};
+ghost use Rattle.call_parts.specs.Guarding.{GuardsLength, GuardsThroughput, LengthPasses, Passes};
+ghost use Rattle.call_parts.specs.Guarding.{SetsUp, ThroughputPasses, stopped, stopping};
 ghost use Rattle.call_parts.specs.Protection.{download_options, enforces_length, standing_stall};
 
 use crate::protection::{download_options, enforces_length};

@@ -4,7 +4,9 @@ ghost use Rattle.std.specs.Prelude.{◌≡◌, List, true};
 ghost use Rattle.smithy_types.specs.Chain.{Chained};
 ghost use Rattle.outside.specs.Calls.{OutsideCall};
 ghost use Rattle.outside.specs.Faults.{HasRisen, hands_out_failure};
-ghost use Rattle.call_parts.specs.Causes.{AbsentWithoutSleeps, BodiesAreWhole, FailsWhereTaken, NeverPending, NothingToEnd, PendingWhileItRuns, PendsWithThePoll, UploadsNeverStall, WasMade};
+ghost use Rattle.call_parts.specs.Causes.{AbsentWithoutSleeps, BodiesAreWhole, FailsWhereTaken};
+ghost use Rattle.call_parts.specs.Causes.{NeverPending, NothingToEnd, PendingWhileItRuns};
+ghost use Rattle.call_parts.specs.Causes.{PendsWithThePoll, UploadsNeverStall, WasMade};
 
 use outside::Outside;
 

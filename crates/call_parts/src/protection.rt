@@ -1,6 +1,7 @@
 //! How the settings that stand protect a body.
 ghost use Rattle.std.specs.Prelude.{◌≡◌};
-ghost use Rattle.call_parts.specs.Protection.{download_options, enforces_length, standing_stall, upload_marked, upload_options};
+ghost use Rattle.call_parts.specs.Protection.{download_options, enforces_length, standing_stall};
+ghost use Rattle.call_parts.specs.Protection.{upload_marked, upload_options};
 
 use smithy_context::{Setting, SettingKey, Settings};
 use smithy_types::StalledStreamProtectionConfig;

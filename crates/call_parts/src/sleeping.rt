@@ -1,7 +1,8 @@
 //! Start and Wait: the sleeps of a client, one for each role.
 ghost use Rattle.std.specs.Prelude.{◌≡◌, [], IfOk, None};
 ghost use Rattle.smithy_types.specs.Chain.{ByCalls, Chained};
-ghost use Rattle.call_parts.specs.Sleeping.{Starts, Waits, give_up_all, giving_up, no_sleeps, sleep_of, with_sleep};
+ghost use Rattle.call_parts.specs.Sleeping.{Starts, Waits, give_up_all, giving_up, no_sleeps};
+ghost use Rattle.call_parts.specs.Sleeping.{sleep_of, with_sleep};
 
 use outside::Outside;
 use run_grammar::{Answer, Role};

@@ -2,7 +2,8 @@
 ghost use Rattle.std.specs.Prelude.{◌≡◌, IfOk, OnOk};
 ghost use Rattle.smithy_types.specs.Chain.{ByCalls, Chained};
 ghost use Rattle.call_parts.specs.Protection.{standing_stall, upload_marked, upload_options};
-ghost use Rattle.call_parts.specs.Transmitting.{Begins, BeginsAnew, Pends, SentAs, StallsAs, Transmits, WatchesMaybe};
+ghost use Rattle.call_parts.specs.Transmitting.{Begins, BeginsAnew, Pends, SentAs, StallsAs};
+ghost use Rattle.call_parts.specs.Transmitting.{Transmits, WatchesMaybe};
 
 use crate::protection::upload_options;
 use crate::{Call, Upload};

@@ -25,7 +25,9 @@ pub trait Call {
 /// Pays for a retry after a failure of this kind, at this second. The answer is what it cost.
 #[derive(Clone, Copy, Drop)]
 pub struct Acquire {
+    /// What the retry is of.
     pub kind: ErrorKind,
+    /// The second.
     pub now_secs: u64,
 }
 
@@ -49,6 +51,7 @@ impl Call for Acquire {
 /// Gives so many tokens back, where as many are held.
 #[derive(Clone, Copy, Drop)]
 pub struct Release {
+    /// How many tokens.
     pub amount: u32,
 }
 
@@ -75,6 +78,7 @@ impl Call for Release {
 /// Gives so many tokens up, where as many are held.
 #[derive(Clone, Copy, Drop)]
 pub struct Forget {
+    /// How many tokens.
     pub amount: u32,
 }
 

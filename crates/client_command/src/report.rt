@@ -37,7 +37,15 @@ pub fn report_on<C: ClassifyRetry, I: TakeOffer>(
     report: Report,
 ) -> Result<(Vec<u8>, PrintStatus), OutOfMemory>
     requires { All (HasClient (length set.old.clients.items)) invocations }
-    ensures { IfOk result (λ told. Reports (ServedBy C.says (record { names = I.names; hooks = I.hooks; runs = I.runs; with_bucket = I.with_bucket; with_verdict = I.with_verdict })) report set.old invocations set.new told.0.items told.1) }
+    ensures { IfOk result (λ told. Reports
+        (ServedBy C.says (record {
+          names = I.names;
+          hooks = I.hooks;
+          runs = I.runs;
+          with_bucket = I.with_bucket;
+          with_verdict = I.with_verdict;
+        })) report set.old invocations
+        set.new told.0.items told.1) }
 {
     match report {
         Report::Print => print(alloc, set, invocations),
@@ -52,7 +60,15 @@ fn print<C: ClassifyRetry, I: TakeOffer>(
     invocations: List<InvocationRecord>,
 ) -> Result<(Vec<u8>, PrintStatus), OutOfMemory>
     requires { All (HasClient (length set.old.clients.items)) invocations }
-    ensures { IfOk result (λ told. Reports (ServedBy C.says (record { names = I.names; hooks = I.hooks; runs = I.runs; with_bucket = I.with_bucket; with_verdict = I.with_verdict })) Report.Print set.old invocations set.new told.0.items told.1) }
+    ensures { IfOk result (λ told. Reports
+        (ServedBy C.says (record {
+          names = I.names;
+          hooks = I.hooks;
+          runs = I.runs;
+          with_bucket = I.with_bucket;
+          with_verdict = I.with_verdict;
+        })) Report.Print set.old
+        invocations set.new told.0.items told.1) }
 {
     let mut out = Vec::new(alloc);
     let outcome = set.play(alloc, invocations, &mut out)?;
@@ -68,7 +84,15 @@ fn count_all<C: ClassifyRetry, I: TakeOffer>(
     seed: u64,
 ) -> Result<(Vec<u8>, PrintStatus), OutOfMemory>
     requires { All (HasClient (length set.old.clients.items)) invocations }
-    ensures { IfOk result (λ told. Counts (ServedBy C.says (record { names = I.names; hooks = I.hooks; runs = I.runs; with_bucket = I.with_bucket; with_verdict = I.with_verdict })) count seed set.old invocations set.new told.0.items told.1) }
+    ensures { IfOk result (λ told. Counts
+        (ServedBy C.says (record {
+          names = I.names;
+          hooks = I.hooks;
+          runs = I.runs;
+          with_bucket = I.with_bucket;
+          with_verdict = I.with_verdict;
+        })) count seed set.old
+        invocations set.new told.0.items told.1) }
 {
     let tally = count_runs(alloc, set, invocations)?;
     let text = made_line(alloc, count, seed, tally, &set.quota)?;
@@ -83,7 +107,8 @@ fn made_line(
     tally: Tally,
     quota: &ClientQuota,
 ) -> Result<Vec<u8>, OutOfMemory>
-    ensures { IfOk result (λ text. text.items ≡ line (made_data count seed tally (option_map sums_of (slice_get quota.now.books 0)))) }
+    ensures { IfOk result (λ text. text.items ≡
+        line (made_data count seed tally (option_map sums_of (slice_get quota.now.books 0)))) }
 {
     let mut text = Vec::new(alloc);
     print_made(alloc, count, seed, tally, first_sums(quota))?.write_line(alloc, &mut text)?;

@@ -38,7 +38,13 @@ impl Tally {
 
     // With one invocation more, which made so many calls.
     fn with(self, is_output: bool, calls: usize) -> Result<Tally, OutOfMemory>
-        ensures { IfOk result (λ t. t ≡ record { outputs = self.outputs + cond is_output 1 0; errors = self.errors + cond is_output 0 1; calls = self.calls + calls }) }
+        ensures { IfOk result (λ t. t ≡
+            record {
+              outputs = self.outputs + cond is_output 1 0;
+              errors = self.errors
+                  + cond is_output 0 1;
+              calls = self.calls + calls;
+            }) }
     {
         Ok(Tally {
             outputs: sum(self.outputs, is_output as u64)?,
@@ -55,7 +61,15 @@ pub fn count_runs<C: ClassifyRetry, I: TakeOffer>(
     invocations: List<InvocationRecord>,
 ) -> Result<Tally, OutOfMemory>
     requires { All (HasClient (length set.old.clients.items)) invocations }
-    ensures { IfOk result (λ t. Tallies (ServedBy C.says (record { names = I.names; hooks = I.hooks; runs = I.runs; with_bucket = I.with_bucket; with_verdict = I.with_verdict })) set.old invocations t set.new) }
+    ensures { IfOk result (λ t. Tallies
+        (ServedBy C.says (record {
+          names = I.names;
+          hooks = I.hooks;
+          runs = I.runs;
+          with_bucket = I.with_bucket;
+          with_verdict = I.with_verdict;
+        })) set.old invocations t
+        set.new) }
 {
     let mut tally = Tally::new();
     for invocation in invocations.into_vec(alloc) {
@@ -72,7 +86,15 @@ fn tally_one<C: ClassifyRetry, I: TakeOffer>(
     earlier: Tally,
 ) -> Result<Tally, OutOfMemory>
     requires { invocation.client < length set.old.clients.items }
-    ensures { IfOk result (λ t. TalliesOne (ServedBy C.says (record { names = I.names; hooks = I.hooks; runs = I.runs; with_bucket = I.with_bucket; with_verdict = I.with_verdict })) set.old invocation earlier t set.new) }
+    ensures { IfOk result (λ t. TalliesOne
+        (ServedBy C.says (record {
+          names = I.names;
+          hooks = I.hooks;
+          runs = I.runs;
+          with_bucket = I.with_bucket;
+          with_verdict = I.with_verdict;
+        })) set.old invocation earlier t
+        set.new) }
 {
     let (log, ending) = set.invoke(alloc, invocation)?;
     let counted = earlier.with(came_to_output(&ending), log.len())?;

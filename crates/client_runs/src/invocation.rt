@@ -30,7 +30,15 @@ pub fn invoke<C: ClassifyRetry, I: TakeOffer>(
     quota: &mut ClientQuota,
     invocation: InvocationRecord,
 ) -> Result<(List<Entry>, Ending), OutOfMemory>
-    ensures { IfOk result (λ ran. Invoked (ServedBy C.says (record { names = I.names; hooks = I.hooks; runs = I.runs; with_bucket = I.with_bucket; with_verdict = I.with_verdict })) client.old outside.old quota.old invocation ran.0 ran.1 client.new outside.new quota.new) }
+    ensures { IfOk result (λ ran. Invoked
+        (ServedBy C.says (record {
+          names = I.names;
+          hooks = I.hooks;
+          runs = I.runs;
+          with_bucket = I.with_bucket;
+          with_verdict = I.with_verdict;
+        })) client.old outside.old
+        quota.old invocation ran.0 ran.1 client.new outside.new quota.new) }
 {
     let InvocationRecord {
         input,

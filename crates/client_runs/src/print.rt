@@ -3,7 +3,8 @@ ghost use Rattle.std.specs.Prelude.{◌≡◌, ◌+◌, ◌++◌, option_map, sl
 ghost use Rattle.json_forms.specs.JsonData.{data_of};
 ghost use Rattle.retry_quota.specs.Book.{sums_of};
 ghost use Rattle.runcheck.specs.Print.{line};
-ghost use Rattle.client_runs.specs.Print.{bucket_data, buckets_text, invocation_data, invocation_text, loads_data};
+ghost use Rattle.client_runs.specs.Print.{bucket_data, buckets_text, invocation_data};
+ghost use Rattle.client_runs.specs.Print.{invocation_text, loads_data};
 
 use json_forms::{Json, Row};
 use retry_quota::Quota;
@@ -26,7 +27,8 @@ pub fn print_invocation(
     ending: &Ending,
     out: &mut Vec<u8>,
 ) -> Result<(), OutOfMemory>
-    ensures { OnOk result (out.new.items ≡ out.old.items ++ invocation_text number client entries.now ending.now) }
+    ensures { OnOk result (out.new.items ≡ out.old.items
+        ++ invocation_text number client entries.now ending.now) }
 {
     print_begin(alloc, number, client)?.write_line(alloc, out)?;
     print_entries(alloc, entries, out)?;

@@ -37,7 +37,15 @@ impl<C: ClassifyRetry, I: TakeOffer> ClientSet<C, I> {
         invocation: InvocationRecord,
     ) -> Result<(List<Entry>, Ending), OutOfMemory>
         requires { invocation.client < length self.old.clients.items }
-        ensures { IfOk result (λ ran. InvokedIn (ServedBy C.says (record { names = I.names; hooks = I.hooks; runs = I.runs; with_bucket = I.with_bucket; with_verdict = I.with_verdict })) self.old invocation ran.0 ran.1 self.new) }
+        ensures { IfOk result (λ ran. InvokedIn
+            (ServedBy C.says (record {
+              names = I.names;
+              hooks = I.hooks;
+              runs = I.runs;
+              with_bucket = I.with_bucket;
+              with_verdict = I.with_verdict;
+            })) self.old invocation ran.0
+            ran.1 self.new) }
     {
         let client = &mut self.clients[invocation.client];
         invoke(
@@ -49,8 +57,8 @@ impl<C: ClassifyRetry, I: TakeOffer> ClientSet<C, I> {
         )
     }
 
-    // Makes these invocations in their order, and prints each behind what is there. Answers what the
-    // last one came to.
+    // Makes these invocations in their order, and prints each behind what is there. Answers what
+    // the last one came to.
     fn run_all(
         &mut self,
         alloc: Global,
@@ -58,7 +66,15 @@ impl<C: ClassifyRetry, I: TakeOffer> ClientSet<C, I> {
         out: &mut Vec<u8>,
     ) -> Result<PrintStatus, OutOfMemory>
         requires { All (HasClient (length self.old.clients.items)) invocations }
-        ensures { IfOk result (λ outcome. RunsAll (ServedBy C.says (record { names = I.names; hooks = I.hooks; runs = I.runs; with_bucket = I.with_bucket; with_verdict = I.with_verdict })) self.old invocations out.old.items self.new out.new.items outcome) }
+        ensures { IfOk result (λ outcome. RunsAll
+            (ServedBy C.says (record {
+              names = I.names;
+              hooks = I.hooks;
+              runs = I.runs;
+              with_bucket = I.with_bucket;
+              with_verdict = I.with_verdict;
+            })) self.old invocations
+            out.old.items self.new out.new.items outcome) }
     {
         let mut number = 0;
         let mut outcome = PrintStatus::Ok;
@@ -78,7 +94,15 @@ impl<C: ClassifyRetry, I: TakeOffer> ClientSet<C, I> {
         out: &mut Vec<u8>,
     ) -> Result<PrintStatus, OutOfMemory>
         requires { All (HasClient (length self.old.clients.items)) invocations }
-        ensures { IfOk result (λ outcome. Plays (ServedBy C.says (record { names = I.names; hooks = I.hooks; runs = I.runs; with_bucket = I.with_bucket; with_verdict = I.with_verdict })) self.old invocations out.old.items self.new out.new.items outcome) }
+        ensures { IfOk result (λ outcome. Plays
+            (ServedBy C.says (record {
+              names = I.names;
+              hooks = I.hooks;
+              runs = I.runs;
+              with_bucket = I.with_bucket;
+              with_verdict = I.with_verdict;
+            })) self.old invocations
+            out.old.items self.new out.new.items outcome) }
     {
         let outcome = self.run_all(alloc, invocations, out)?;
         print_buckets(alloc, &self.quota, out)?;
@@ -95,7 +119,15 @@ impl<C: ClassifyRetry, I: TakeOffer> ClientSet<C, I> {
         out: &mut Vec<u8>,
     ) -> Result<PrintStatus, OutOfMemory>
         requires { invocation.client < length self.old.clients.items }
-        ensures { IfOk result (λ outcome. RunsOne (ServedBy C.says (record { names = I.names; hooks = I.hooks; runs = I.runs; with_bucket = I.with_bucket; with_verdict = I.with_verdict })) number self.old invocation out.old.items self.new out.new.items outcome) }
+        ensures { IfOk result (λ outcome. RunsOne
+            (ServedBy C.says (record {
+              names = I.names;
+              hooks = I.hooks;
+              runs = I.runs;
+              with_bucket = I.with_bucket;
+              with_verdict = I.with_verdict;
+            })) number self.old
+            invocation out.old.items self.new out.new.items outcome) }
     {
         let client = invocation.client;
         let (log, ending) = self.invoke(alloc, invocation)?;

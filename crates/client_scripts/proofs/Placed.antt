@@ -16,11 +16,12 @@ use Rattle.outside_scripts.specs.Responses.{records_at}
 use Rattle.outside_scripts.specs.Words.{words_at}
 use Rattle.client_scripts.specs.Auth.{auth_at}
 use Rattle.client_scripts.specs.Buckets.{buckets_at}
-use Rattle.client_scripts.specs.Clients.{flags_at, rules_at, target_at, client_at, clients_at}
+use Rattle.client_scripts.specs.Clients.{flags_at, rules_at, target_at, client_members, client_at, clients_at}
 use Rattle.client_scripts.specs.Invocations.{stop_at, run_at, invocation_at, invocations_at}
 use Rattle.client_scripts.specs.Members.{members_at}
 use Rattle.client_scripts.specs.Placed.{RulesHaveBucket, HasBucket, HasClient, IsPlaced}
 use Rattle.client_scripts.specs.Retries.{retry_choice_at, classifiers_at}
+use Rattle.client_scripts.specs.Schemes.{http_schemes_of}
 use Rattle.client_scripts.specs.Script.{client_script_at}
 use Rattle.client_scripts.specs.declared.script.ClientScript.{ClientScript}
 
@@ -59,11 +60,13 @@ rules_placed buckets d =
 client_placed : (buckets : ℕ) (d : Data) → Holds (HasBucket buckets) (client_at buckets d)
 unfolding client_at Holds
 client_placed buckets d =
-    past _ (members_at 15 d) _ (λ _.
+    past _ (members_at (client_members d) d) _ (λ _.
     step (RulesHaveBucket buckets) _ (rules_at buckets d) _ (rules_placed buckets d) (λ r hr.
     past _ (target_at d) _ (λ t.
     past _ (get (codes "classifiers") d >>= classifiers_at) _ (λ cs.
-    past _ (get (codes "auth") d >>= auth_at) _ (λ a. hr)))))
+    past _ (get (codes "auth") d) _ (λ a.
+    past _ (http_schemes_of (get (codes "http_schemes") d)) _ (λ hs.
+    past _ (auth_at hs a) _ (λ auth. hr)))))))
 
 clients_placed : (buckets : ℕ) (d : Data) → Holds (All (HasBucket buckets)) (clients_at buckets d)
 unfolding clients_at

@@ -1,5 +1,5 @@
 -- Which auth schemes a script spells, and what they sign with.
-use Rattle.std.specs.Prelude.{false, Option, Some, None, codes, is_none, if◌then◌else◌}
+use Rattle.std.specs.Prelude.{false, ◌==◌, List, Option, Some, None, codes, is_none, length, if◌then◌else◌}
 use Rattle.serde_json.specs.Data.{Data}
 use Rattle.identity_cell.specs.Builder.{refusal, built}
 use Rattle.identity_cell.specs.declared.identity_cache.SharedIdentityCache.{SharedIdentityCache}
@@ -9,9 +9,11 @@ use Rattle.json_forms.specs.Forms.{says, tagged_at, optional_at, texts_at}
 use Rattle.json_forms.specs.Plain.{number_at, quadruple_at, quintuple_at}
 use Rattle.json_forms.specs.Reading.{◌>>=◌}
 use Rattle.outside_scripts.specs.Identities.{sources_at}
+use Rattle.client_scripts.specs.Schemes.{placed}
 use Rattle.client_scripts.specs.declared.terms.AuthChoice.{AuthChoice}
 use Rattle.client_scripts.specs.declared.terms.AuthChoice.TheVariants as auths
 use Rattle.client_scripts.specs.declared.terms.AuthSchemes.{AuthSchemes}
+use Rattle.client_scripts.specs.declared.terms.HttpSchemeChoice.{HttpSchemeChoice}
 
 -- the cache that the builder makes of these parts, if it makes one
 abbrev pub lazy_of : LazyCacheBuilder → Option SharedIdentityCache
@@ -25,10 +27,14 @@ lazy_at d = quadruple_at d >>= λ p. number_at p.0 >>= λ b. number_at p.1 >>= �
 unfoldable pub cache_at : Data → Option SharedIdentityCache
 cache_at d = if says (codes "none") d then Some caches.NoCache else (tagged_at (codes "lazy") d >>= lazy_at)
 
--- options, schemes, identities, a preference or null, and a cache
-unfoldable pub auth_schemes_at : Data → Option AuthSchemes
-auth_schemes_at d = quintuple_at d >>= λ p. cache_at p.4 >>= λ c. texts_at p.0 >>= λ o. texts_at p.1 >>= λ s. sources_at p.2 >>= λ i. optional_at texts_at p.3 >>= λ f.
-    Some (record { options = o; schemes = s; identities = i; preference = f; cache = c })
+-- options, schemes, identities, a preference or null, and a cache; what is said of schemes of HTTP is of these schemes
+unfoldable pub auth_schemes_at : List HttpSchemeChoice → Data → Option AuthSchemes
+auth_schemes_at https d = quintuple_at d >>= λ p. cache_at p.4 >>= λ c. texts_at p.0 >>= λ o. texts_at p.1 >>= λ s. placed s https >>= λ h. sources_at p.2 >>= λ i. optional_at texts_at p.3 >>= λ f.
+    Some (record { options = o; schemes = s; http_schemes = h; identities = i; preference = f; cache = c })
 
-unfoldable pub auth_at : Data → Option AuthChoice
-auth_at d = if says (codes "none") d then Some auths.NoAuth else (auth_schemes_at d >>= λ s. Some (auths.Schemes s))
+-- nothing signs, and so nothing may be said of schemes of HTTP
+abbrev pub unsigned : List HttpSchemeChoice → Option AuthChoice
+unsigned https = if length https == 0 then Some auths.NoAuth else None
+
+unfoldable pub auth_at : List HttpSchemeChoice → Data → Option AuthChoice
+auth_at https d = if says (codes "none") d then unsigned https else (auth_schemes_at https d >>= λ s. Some (auths.Schemes s))

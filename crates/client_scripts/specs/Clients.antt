@@ -1,5 +1,5 @@
 -- Which client objects a script spells.
-use Rattle.std.specs.Prelude.{ℕ, List, Option, Some, codes}
+use Rattle.std.specs.Prelude.{ℕ, List, Option, Some, codes, is_some, if◌then◌else◌}
 use Rattle.serde_json.specs.Data.{Data}
 use Rattle.serde_json.specs.Find.{as_bool, as_str, as_array, get}
 use Rattle.json_forms.specs.Forms.{optional_at}
@@ -10,6 +10,7 @@ use Rattle.value_json.specs.SettingReadings.{timeouts_at, stall_at}
 use Rattle.client_scripts.specs.Auth.{auth_at}
 use Rattle.client_scripts.specs.Members.{members_at}
 use Rattle.client_scripts.specs.Retries.{retry_choice_at, classifiers_at}
+use Rattle.client_scripts.specs.Schemes.{http_schemes_of}
 use Rattle.client_scripts.specs.declared.terms.ClientFlags.{ClientFlags}
 use Rattle.client_scripts.specs.declared.terms.ClientObject.{ClientObject}
 use Rattle.client_scripts.specs.declared.terms.ClientRules.{ClientRules}
@@ -32,10 +33,15 @@ unfoldable pub target_at : Data → Option ClientTarget
 target_at d = text_member (codes "service") d >>= λ s. text_member (codes "operation") d >>= λ o. text_member (codes "url") d >>= λ u. get (codes "prefix") d >>= optional_at as_str >>= λ x.
     Some (record { service = s; operation = o; url = u; prefix = x })
 
--- a client object of a script with so many buckets: fifteen members, each of its form, and a bucket that there is
+-- fifteen members, and `http_schemes` beside them where it isn't left out
+abbrev pub client_members : Data → ℕ
+client_members d = if is_some (get (codes "http_schemes") d) then 16 else 15
+
+-- a client object of a script with so many buckets: its members and no others, each of its form, and a bucket that there is
 unfoldable pub client_at : ℕ → Data → Option ClientObject
-client_at buckets d = members_at 15 d >>= λ _. rules_at buckets d >>= λ r. target_at d >>= λ t. get (codes "classifiers") d >>= classifiers_at >>= λ cs. get (codes "auth") d >>= auth_at >>= λ a.
-    Some (record { target = t; rules = r; classifiers = cs; auth = a })
+client_at buckets d = members_at (client_members d) d >>= λ _. rules_at buckets d >>= λ r. target_at d >>= λ t. get (codes "classifiers") d >>= classifiers_at >>= λ cs.
+    get (codes "auth") d >>= λ a. http_schemes_of (get (codes "http_schemes") d) >>= λ hs. auth_at hs a >>= λ auth.
+    Some (record { target = t; rules = r; classifiers = cs; auth = auth })
 
 unfoldable pub clients_at : ℕ → Data → Option (List ClientObject)
 clients_at buckets d = as_array d >>= list_of (client_at buckets)

@@ -1,6 +1,7 @@
 pub mod Members
 pub mod Buckets
 pub mod Retries
+pub mod Schemes
 pub mod Auth
 pub mod Clients
 pub mod Invocations

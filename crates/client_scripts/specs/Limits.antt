@@ -9,6 +9,8 @@ use Rattle.client_scripts.specs.declared.terms.AuthChoice.TheVariants as auths
 use Rattle.client_scripts.specs.declared.terms.AuthSchemes.{AuthSchemes}
 use Rattle.client_scripts.specs.declared.terms.BucketTerms.{BucketTerms}
 use Rattle.client_scripts.specs.declared.terms.ClientObject.{ClientObject}
+use Rattle.client_scripts.specs.declared.terms.HttpSchemeChoice.{HttpSchemeChoice}
+use Rattle.client_scripts.specs.declared.terms.HttpSchemeChoice.TheVariants.{Bearer, ApiKey}
 use Rattle.client_scripts.specs.declared.terms.InvocationRecord.{InvocationRecord}
 
 -- ---- buckets
@@ -18,8 +20,12 @@ capacity_fits b = nat_le b.capacity 500000000
 
 -- ---- clients
 
+unfoldable pub http_scheme_fits : HttpSchemeChoice → Bool
+http_scheme_fits Bearer = true
+http_scheme_fits (ApiKey k) = text_fits k.name && fits_or_none text_fits k.prefix
+
 unfoldable pub schemes_fit : AuthSchemes → Bool
-schemes_fit a = texts_fit a.options && (texts_fit a.schemes && (sources_fit a.identities && fits_or_none texts_fit a.preference))
+schemes_fit a = texts_fit a.options && (texts_fit a.schemes && (list_all http_scheme_fits a.http_schemes && (sources_fit a.identities && fits_or_none texts_fit a.preference)))
 
 unfoldable pub auth_fits : AuthChoice → Bool
 auth_fits auths.NoAuth = true

@@ -2,14 +2,17 @@
 ghost use Rattle.std.specs.Prelude.{◌≡◌};
 ghost use Rattle.serde_json.specs.View.{view};
 ghost use Rattle.json_forms.specs.Reading.{Reads};
-ghost use Rattle.client_scripts.specs.Auth.{lazy_of, lazy_at, cache_at, auth_schemes_at, auth_at};
+ghost use Rattle.client_scripts.specs.Auth.{lazy_of, lazy_at, cache_at, auth_schemes_at, unsigned};
+ghost use Rattle.client_scripts.specs.Auth.{auth_at};
 
-use crate::terms::{AuthChoice, AuthSchemes};
+use crate::schemes::placed;
+use crate::terms::{AuthChoice, AuthSchemes, HttpSchemeChoice};
 use identity_cell::{LazyCacheBuilder, SharedIdentityCache};
 use json_forms::forms::{read_optional_number, read_optional_texts, read_tagged, read_texts, says};
 use json_forms::{ReadError, read};
 use outside_scripts::read_sources;
 use serde_json::Value;
+use smithy_types::List;
 use std::alloc::Global;
 
 // The lazy cache of these parts, where they make one.
@@ -53,33 +56,54 @@ fn read_cache(value: &Value) -> Result<SharedIdentityCache, ReadError>
     read_lazy(read_tagged("lazy", value)?)
 }
 
-// Auth schemes and what they sign with.
+// Auth schemes and what they sign with, where this is said of those of HTTP.
 #[tactic(auto, unfolding(crate::specs::Auth::auth_schemes_at))]
-fn read_auth_schemes(alloc: Global, value: &Value) -> Result<AuthSchemes, ReadError>
-    ensures { Reads result (auth_schemes_at (view value.now)) }
+fn read_auth_schemes(
+    alloc: Global,
+    http_schemes: List<HttpSchemeChoice>,
+    value: &Value,
+) -> Result<AuthSchemes, ReadError>
+    ensures { Reads result (auth_schemes_at http_schemes (view value.now)) }
 {
     let (options, schemes, identities, preference, cache) = read::quintuple(value)?;
     let cache = read_cache(cache)?;
     let options = read_texts(alloc, options)?;
     let schemes = read_texts(alloc, schemes)?;
+    let http_schemes = placed(&schemes, http_schemes)?;
     let identities = read_sources(alloc, identities)?;
     let preference = read_optional_texts(alloc, preference)?;
     Ok(AuthSchemes {
         options,
         schemes,
+        http_schemes,
         identities,
         preference,
         cache,
     })
 }
 
-/// How a client signs.
+// A client that doesn't sign has no schemes, and so none of HTTP.
+fn unsigned(http_schemes: List<HttpSchemeChoice>) -> Result<AuthChoice, ReadError>
+    ensures { Reads result (unsigned http_schemes) }
+{
+    if http_schemes.is_empty() {
+        Ok(AuthChoice::NoAuth)
+    } else {
+        Err(ReadError::Refused)
+    }
+}
+
+/// How a client signs, of whose schemes of HTTP this is said.
 #[tactic(auto, unfolding(crate::specs::Auth::auth_at))]
-pub fn read_auth(alloc: Global, value: &Value) -> Result<AuthChoice, ReadError>
-    ensures { Reads result (auth_at (view value.now)) }
+pub fn read_auth(
+    alloc: Global,
+    http_schemes: List<HttpSchemeChoice>,
+    value: &Value,
+) -> Result<AuthChoice, ReadError>
+    ensures { Reads result (auth_at http_schemes (view value.now)) }
 {
     if says("none", value) {
-        return Ok(AuthChoice::NoAuth);
+        return unsigned(http_schemes);
     }
-    Ok(AuthChoice::Schemes(read_auth_schemes(alloc, value)?))
+    Ok(AuthChoice::Schemes(read_auth_schemes(alloc, http_schemes, value)?))
 }

@@ -5,11 +5,13 @@ ghost use Rattle.json_forms.specs.Forms.{optional_at};
 ghost use Rattle.json_forms.specs.Lists.{list_of};
 ghost use Rattle.json_forms.specs.Reading.{Reads};
 ghost use Rattle.value_json.specs.SettingReadings.{stall_at};
-ghost use Rattle.client_scripts.specs.Clients.{flags_at, rules_at, text_member, target_at, client_at, clients_at};
+ghost use Rattle.client_scripts.specs.Clients.{flags_at, rules_at, text_member, target_at};
+ghost use Rattle.client_scripts.specs.Clients.{client_members, client_at, clients_at};
 
 use crate::auth::read_auth;
 use crate::members::{only_members, read_optional_place};
 use crate::retries::{read_classifiers, read_retry_choice};
+use crate::schemes::read_http_schemes;
 use crate::terms::{ClientFlags, ClientObject, ClientRules, ClientTarget};
 use json_forms::forms::read_optional_text;
 use json_forms::{ReadError, read};
@@ -18,7 +20,7 @@ use smithy_types::{List, StalledStreamProtectionConfig, Text};
 use std::alloc::Global;
 use value_json::setting::{read_stall, read_timeouts};
 
-/// How many members a client object has.
+/// How many members a client object has without `http_schemes`, which may be left out.
 const CLIENT_MEMBERS: usize = 15;
 
 // What a client has and does.
@@ -94,16 +96,28 @@ fn read_target(alloc: Global, value: &Value) -> Result<ClientTarget, ReadError>
     })
 }
 
+// How many members this client object may have.
+fn client_members(value: &Value) -> usize
+    ensures { result ≡ client_members (view value.now) }
+{
+    match value.get("http_schemes") {
+        Some(_) => CLIENT_MEMBERS + 1,
+        None => CLIENT_MEMBERS,
+    }
+}
+
 /// A client object of a script with so many buckets.
 #[tactic(auto, unfolding(crate::specs::Clients::client_at))]
 pub fn read_client(alloc: Global, buckets: usize, value: &Value) -> Result<ClientObject, ReadError>
     ensures { Reads result (client_at buckets (view value.now)) }
 {
-    only_members(CLIENT_MEMBERS, value)?;
+    only_members(client_members(value), value)?;
     let rules = read_rules(buckets, value)?;
     let target = read_target(alloc, value)?;
     let classifiers = read_classifiers(alloc, read::member(value, "classifiers")?)?;
-    let auth = read_auth(alloc, read::member(value, "auth")?)?;
+    let auth = read::member(value, "auth")?;
+    let http_schemes = read_http_schemes(alloc, value.get("http_schemes"))?;
+    let auth = read_auth(alloc, http_schemes, auth)?;
     Ok(ClientObject {
         target,
         rules,

@@ -9,6 +9,7 @@ pub mod invocation;
 pub mod limits;
 pub mod members;
 pub mod retries;
+pub mod schemes;
 pub mod script;
 pub mod terms;
 #[cfg(test)]
@@ -17,6 +18,6 @@ mod tests;
 pub use limits::{capacity_fits, client_fits, client_script_fits};
 pub use script::{ClientScript, read_client_script};
 pub use terms::{
-    AuthChoice, AuthSchemes, BucketTerms, ClassifierChoice, ClientFlags, ClientObject, ClientRules,
-    ClientTarget, InvocationRecord, RetryChoice,
+    ApiKeyChoice, AuthChoice, AuthSchemes, BucketTerms, ClassifierChoice, ClientFlags,
+    ClientObject, ClientRules, ClientTarget, HttpSchemeChoice, InvocationRecord, RetryChoice,
 };

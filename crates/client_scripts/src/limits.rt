@@ -1,10 +1,14 @@
 //! Limits of what a client script may hold.
 ghost use Rattle.std.specs.Prelude.{◌≡◌, ◌+◌, ◌<◌, None, nat_le, sum_by, IfSome};
 ghost use Rattle.std.specs.List.{list_all};
-ghost use Rattle.client_scripts.specs.Limits.{capacity_fits, schemes_fit, auth_fits, client_fits, clients_fit, invocation_fits, fuel_of, client_script_fits};
+ghost use Rattle.client_scripts.specs.Limits.{capacity_fits, http_scheme_fits, schemes_fit};
+ghost use Rattle.client_scripts.specs.Limits.{auth_fits, client_fits, clients_fit, invocation_fits};
+ghost use Rattle.client_scripts.specs.Limits.{fuel_of, client_script_fits};
 
 use crate::script::ClientScript;
-use crate::terms::{AuthChoice, AuthSchemes, BucketTerms, ClientObject, InvocationRecord};
+use crate::terms::{
+    AuthChoice, AuthSchemes, BucketTerms, ClientObject, HttpSchemeChoice, InvocationRecord,
+};
 use outside_scripts::{
     optional_text_fits, optional_texts_fit, records_fit, sources_fit, text_fits, texts_fit,
 };
@@ -32,12 +36,29 @@ fn capacities_fit(buckets: &[BucketTerms]) -> bool
     buckets.iter().all(|terms| capacity_fits(terms))
 }
 
+#[tactic(auto, unfolding(crate::specs::Limits::http_scheme_fits))]
+fn http_scheme_fits(scheme: &HttpSchemeChoice) -> bool
+    ensures { result ≡ http_scheme_fits scheme.now }
+{
+    match scheme {
+        HttpSchemeChoice::Bearer => true,
+        HttpSchemeChoice::ApiKey(key) => text_fits(&key.name) && optional_text_fits(&key.prefix),
+    }
+}
+
+fn http_schemes_fit(schemes: &[HttpSchemeChoice]) -> bool
+    ensures { result ≡ list_all http_scheme_fits schemes.now }
+{
+    schemes.iter().all(|scheme| http_scheme_fits(scheme))
+}
+
 #[tactic(auto, unfolding(crate::specs::Limits::schemes_fit))]
 fn schemes_fit(auth: &AuthSchemes) -> bool
     ensures { result ≡ schemes_fit auth.now }
 {
     texts_fit(&auth.options)
         && texts_fit(&auth.schemes)
+        && http_schemes_fit(auth.http_schemes.as_slice())
         && sources_fit(auth.identities.as_slice())
         && optional_texts_fit(&auth.preference)
 }

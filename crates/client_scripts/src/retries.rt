@@ -3,7 +3,8 @@ ghost use Rattle.std.specs.Prelude.{◌≡◌};
 ghost use Rattle.serde_json.specs.View.{view, items_view};
 ghost use Rattle.json_forms.specs.Lists.{list_of};
 ghost use Rattle.json_forms.specs.Reading.{Reads};
-ghost use Rattle.client_scripts.specs.Retries.{retry_choice_at, code_at, classifier_at, classifiers_at};
+ghost use Rattle.client_scripts.specs.Retries.{retry_choice_at, code_at, classifier_at};
+ghost use Rattle.client_scripts.specs.Retries.{classifiers_at};
 
 use crate::terms::{ClassifierChoice, RetryChoice};
 use json_forms::forms::{read_tagged, says};

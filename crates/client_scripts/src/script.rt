@@ -35,12 +35,13 @@ pub struct ClientScript {
     pub invocations: List<InvocationRecord>,
 }
 
-/// The script that the bytes are the text of. It is refused exactly where they are the text of none.
-/// Each client's bucket and each invocation's client is one that the script has.
+/// The script that the bytes are the text of. It is refused exactly where they are the text of
+/// none. Each client's bucket and each invocation's client is one that the script has.
 pub fn read_client_script(alloc: Global, bytes: &[u8]) -> Result<ClientScript, ReadError>
     ensures found { IfOk result (λ s. IsClientScript bytes.now s) }
     ensures placed { IfOk result IsPlaced }
-    ensures refused { IsErrOf result ReadError.Refused → (s : ClientScript) → IsClientScript bytes.now s → ⊥ }
+    ensures refused { IsErrOf result ReadError.Refused → (s : ClientScript) →
+        IsClientScript bytes.now s → ⊥ }
 {
     match Value::from_slice(alloc, bytes) {
         Ok(value) => script_in(alloc, &value),

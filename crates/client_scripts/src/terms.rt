@@ -1,5 +1,8 @@
 //! What a script says of buckets, clients and invocations. Times are in nanoseconds.
+ghost use Rattle.std.specs.Prelude.{◌≡◌};
+ghost use Rattle.client_scripts.specs.Schemes.{id_of};
 
+use http_schemes::{ApiKeyLocation, HTTP_API_KEY_AUTH_SCHEME_ID, HTTP_BEARER_AUTH_SCHEME_ID};
 use identity_cell::SharedIdentityCache;
 use scripted::{IdentityRecord, ResponseRecord};
 use smithy_types::{
@@ -43,6 +46,38 @@ pub enum ClassifierChoice {
     Status(List<u16>),
 }
 
+/// An API key of requests (Smithy's trait `httpApiKeyAuth`).
+#[derive(Debug, Drop)]
+pub struct ApiKeyChoice {
+    /// Where requests have it.
+    pub location: ApiKeyLocation,
+    /// The name that it has there.
+    pub name: Text,
+    /// What stands before it in a header, where something does. In a query nothing does.
+    pub prefix: Option<Text>,
+}
+
+/// What is said of a scheme of HTTP, whose id is fixed.
+#[derive(Debug, Drop)]
+pub enum HttpSchemeChoice {
+    /// `http-bearer-auth` signs by a bearer token.
+    Bearer,
+    /// `http-api-key-auth` signs by this API key.
+    ApiKey(ApiKeyChoice),
+}
+
+impl HttpSchemeChoice {
+    /// The id of the scheme.
+    pub fn id(&self) -> &str
+        ensures { result.now ≡ id_of self.now }
+    {
+        match self {
+            HttpSchemeChoice::Bearer => HTTP_BEARER_AUTH_SCHEME_ID,
+            HttpSchemeChoice::ApiKey(_) => HTTP_API_KEY_AUTH_SCHEME_ID,
+        }
+    }
+}
+
 /// The auth schemes of a client and what they sign with.
 #[derive(Debug, Drop)]
 pub struct AuthSchemes {
@@ -50,6 +85,9 @@ pub struct AuthSchemes {
     pub options: List<Text>,
     /// The ids of the schemes that there are.
     pub schemes: List<Text>,
+    /// What is said of those schemes that are HTTP's: no id is among them twice. A scheme of which
+    /// nothing is said here is the service's own, whatever its id is.
+    pub http_schemes: List<HttpSchemeChoice>,
     /// Where identities come from. Of two with one id the first counts.
     pub identities: List<IdentityRecord>,
     /// The ids in the order in which they are preferred, where an order is given.

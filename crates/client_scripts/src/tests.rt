@@ -11,7 +11,7 @@ const SCRIPT: &str =
     "{\"buckets\":[[500,5,5,10,0,0]],\"start\":0,\"words\":[1],\"clients\":[{\"service\":\"s\",\"operation\":\"o\",\"bucket\":0,\"retry\":\"never\",\"timeouts\":[null,null,null,null],\"url\":\"http://localhost:1\",\"prefix\":null,\"sleep\":true,\"time\":true,\"poisoning\":false,\"enforce\":false,\"v2\":true,\"stall\":null,\"classifiers\":[\"modeled\",\"transient\",[\"status\",[503]]],\"auth\":[[\"a\"],[\"a\"],[[\"a\",0,[\"key\",null]]],null,[\"lazy\",[0,900000000000,1,null]]]}],\"invocations\":[{\"client\":0,\"input\":[1,\"x\"],\"fuel\":100,\"stop\":\"None\",\"responses\":[[0,503,[],[],false,null],[0,200,[[\"k\",\"v\"]],[[0,\"ok\"]],true,7],[0,[\"Failed\",\"Io\",\"t\"]]]}]}";
 
 // What stands in the script, and what in its place leaves no script.
-const DAMAGES: [(&str, &str); 30] = [
+const DAMAGES: [(&str, &str); 36] = [
     ("\"start\":0,", ""),
     ("\"start\":0", "\"start\":null"),
     ("\"start\":0", "\"start\":1.5"),
@@ -26,7 +26,31 @@ const DAMAGES: [(&str, &str); 30] = [
     ("\"timeouts\":[null,null,null,null]", "\"timeouts\":null"),
     ("\"prefix\":null,", ""),
     ("\"v2\":true", "\"v2\":1"),
-    ("\"v2\":true", "\"v2\":true,\"http_schemes\":[]"),
+    ("\"v2\":true", "\"v2\":true,\"http_schemes\":null"),
+    ("\"v2\":true", "\"v2\":true,\"http_schemes\":[[\"bearer\"]]"),
+    (
+        "\"auth\":[[\"a\"],[\"a\"]",
+        "\"http_schemes\":[[\"bearer\"],[\"bearer\"]],\"auth\":[[],[\"http-bearer-auth\"]",
+    ),
+    (
+        "\"auth\":[[\"a\"],[\"a\"]",
+        "\"http_schemes\":[[\"bearer\",null]],\"auth\":[[],[\"http-bearer-auth\"]",
+    ),
+    (
+        "\"auth\":[[\"a\"],[\"a\"]",
+        "\"http_schemes\":[[\"api_key\",\"Query\",\"k\",\"p\"]],\
+         \"auth\":[[],[\"http-api-key-auth\"]",
+    ),
+    (
+        "\"auth\":[[\"a\"],[\"a\"]",
+        "\"http_schemes\":[[\"api_key\",\"Path\",\"k\",null]],\
+         \"auth\":[[],[\"http-api-key-auth\"]",
+    ),
+    (
+        "\"auth\":[[\"a\"],[\"a\"],[[\"a\",0,[\"key\",null]]],\
+         null,[\"lazy\",[0,900000000000,1,null]]]",
+        "\"http_schemes\":[[\"bearer\"]],\"auth\":\"none\"",
+    ),
     ("\"modeled\"", "\"Modeled\""),
     ("[503]]", "[65536]]"),
     ("[\"key\",null]", "[\"Fail\",\"t\"]"),
@@ -48,7 +72,7 @@ const DAMAGES: [(&str, &str); 30] = [
 ];
 
 // What stands in the script, and what in its place is another script within the limits.
-const OTHERS: [(&str, &str); 7] = [
+const OTHERS: [(&str, &str); 12] = [
     ("\"bucket\":0", "\"bucket\":null"),
     ("[\"key\",null]", "[\"Failed\",\"t\"]"),
     ("[\"key\",null]", "[\"Failed\",5]"),
@@ -56,6 +80,27 @@ const OTHERS: [(&str, &str); 7] = [
     ("\"fuel\":100", "\"fuel\":100000"),
     ("500,5,5", "500000000,5,5"),
     ("\"words\":[1]", "\"words\":[]"),
+    ("\"v2\":true", "\"v2\":true,\"http_schemes\":[]"),
+    (
+        "\"auth\":[[\"a\"],[\"a\"]",
+        "\"http_schemes\":[[\"bearer\"],[\"api_key\",\"Header\",\"k\",\"p\"]],\
+         \"auth\":[[],[\"http-bearer-auth\",\"http-api-key-auth\"]",
+    ),
+    (
+        "\"auth\":[[\"a\"],[\"a\"]",
+        "\"http_schemes\":[[\"api_key\",\"Header\",\"k k\",null]],\
+         \"auth\":[[],[\"http-api-key-auth\"]",
+    ),
+    (
+        "\"auth\":[[\"a\"],[\"a\"]",
+        "\"http_schemes\":[[\"api_key\",\"Query\",\"k\",null]],\
+         \"auth\":[[],[\"http-api-key-auth\"]",
+    ),
+    (
+        "\"auth\":[[\"a\"],[\"a\"],[[\"a\",0,[\"key\",null]]],\
+         null,[\"lazy\",[0,900000000000,1,null]]]",
+        "\"http_schemes\":[],\"auth\":\"none\"",
+    ),
 ];
 
 // What stands in the script, and what in its place passes a limit.

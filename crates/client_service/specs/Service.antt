@@ -14,9 +14,9 @@ use Rattle.smithy_types.specs.declared.payload.Payload.{Payload}
 use Rattle.smithy_types.specs.declared.identity.Identity.{Identity}
 use Rattle.auth_endpoint.specs.declared.scheme.Signed.{Signed}
 use Rattle.auth_endpoint.specs.declared.scheme.Signed.TheVariants.{Request}
-use Rattle.http_schemes.specs.Signing.{SignsByHeader}
+use Rattle.http_schemes.specs.Signing.{SignsByHeader, SignsByKey}
 use Rattle.client_service.specs.declared.scheme.ServiceScheme.{ServiceScheme}
-use Rattle.client_service.specs.declared.scheme.ServiceScheme.TheVariants.{NoAuth, Header}
+use Rattle.client_service.specs.declared.scheme.ServiceScheme.TheVariants.{NoAuth, Header, Bearer, ApiKey}
 
 -- an input is posted to the service's root
 abbrev pub posted : Payload → HttpRequest
@@ -49,15 +49,19 @@ kind_of_error bytes =
 
 -- ---- signing
 
--- of `noAuth` the scheme that signs nothing
+-- the service's own scheme of an id: of `noAuth` the one that signs nothing
 abbrev pub scheme_of : List ℕ → ServiceScheme
 scheme_of id = if bytes_eq id (codes "noAuth") then NoAuth else Header id
 
 abbrev pub id_of : ServiceScheme → List ℕ
 id_of NoAuth = codes "noAuth"
 id_of (Header id) = id
+id_of (Bearer scheme) = codes "http-bearer-auth"
+id_of (ApiKey scheme) = codes "http-api-key-auth"
 
--- the request as it is, or with the header `authorization`
+-- the request as it is, with the header `authorization` of the bare data or of a bearer token, or with an API key
 abbrev pub Signs : ServiceScheme → HttpRequest → Identity → Signed → Type 0
 Signs NoAuth request identity signed = signed ≡ Request request
 Signs (Header id) request identity signed = SignsByHeader (codes "authorization") identity.content request signed
+Signs (Bearer scheme) request identity signed = SignsByHeader (codes "authorization") (codes "Bearer " ++ identity.content) request signed
+Signs (ApiKey scheme) request identity signed = SignsByKey scheme.location scheme.name scheme.prefix identity.content request signed

@@ -4,6 +4,7 @@ ghost use Rattle.client_service.specs.Service.{scheme_of};
 
 use auth_endpoint::{AuthScheme, NO_AUTH_SCHEME_ID, Signed};
 use http_schemes::header::sign_by_header;
+use http_schemes::{ApiKeyAuthScheme, BearerAuthScheme};
 use smithy_types::{Endpoint, HttpRequest, Identity, OutOfMemory, Text};
 use std::alloc::Global;
 
@@ -16,10 +17,15 @@ pub enum ServiceScheme {
     /// `BadHeader`: the content is no value of a header (RFC 9110, section 5.5), or the header is
     /// new and the request has no room for it.
     Header(Text),
+    /// Signs by a bearer token, under the id `http-bearer-auth`.
+    Bearer(BearerAuthScheme),
+    /// Signs by an API key, under the id `http-api-key-auth`.
+    ApiKey(ApiKeyAuthScheme),
 }
 
 impl ServiceScheme {
-    /// The scheme of this id: of `noAuth` the one that signs nothing.
+    /// The service's own scheme of this id: of `noAuth` the one that signs nothing, and of any
+    /// other the one that sets the header, be it the id of a bearer token or of an API key.
     pub fn of(id: Text) -> ServiceScheme
         ensures { result ≡ scheme_of id }
     {
@@ -42,6 +48,8 @@ impl AuthScheme for ServiceScheme {
         match self {
             ServiceScheme::NoAuth => NO_AUTH_SCHEME_ID,
             ServiceScheme::Header(id) => id.as_str(),
+            ServiceScheme::Bearer(scheme) => scheme.id(),
+            ServiceScheme::ApiKey(scheme) => scheme.id(),
         }
     }
 
@@ -50,7 +58,7 @@ impl AuthScheme for ServiceScheme {
         alloc: Global,
         request: HttpRequest,
         identity: &Identity,
-        _endpoint: &Endpoint,
+        endpoint: &Endpoint,
     ) -> Result<Signed, OutOfMemory> {
         match self {
             ServiceScheme::NoAuth => Ok(Signed::Request(request)),
@@ -58,6 +66,8 @@ impl AuthScheme for ServiceScheme {
                 let value = identity.content.as_slice();
                 sign_by_header(alloc, request, b"authorization", value)
             }
+            ServiceScheme::Bearer(scheme) => scheme.sign(alloc, request, identity, endpoint),
+            ServiceScheme::ApiKey(scheme) => scheme.sign(alloc, request, identity, endpoint),
         }
     }
 }

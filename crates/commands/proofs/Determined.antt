@@ -74,7 +74,7 @@ one_replay s log m e f (x, left, u) (y, rest, v) =
     (same, one_ending h h.stop m e f (subst (λ l. EndsBy h h.stop [] l e) same x) y)
 
 one_print : (s : Script) (t u : List ℕ) (a b : PrintStatus) → IsReplay s t a → IsReplay s u b → (t ≡ u) × (a ≡ b)
-one_print s t u a b (log, e, x, g, i) (m, f, y, h, j) =
+one_print s t u a b (log, e, x, g, i, r, v) (m, f, y, h, j, q, w) =
     let same = one_replay s log m e f x y in
     (g ∙ ap (λ l. run_text s.head l e) same.0 ∙ ap (λ z. run_text s.head m z) same.1 ∙ sym h, i ∙ ap came_to same.1 ∙ sym j)
 
@@ -93,15 +93,15 @@ within_passes : (s r : Script) → s ≡ r → is_within s ≡ true → is_withi
 within_passes s r e w v = let f = sym w ∙ ap is_within e ∙ v in cc
 
 pub replay_once : IsFunctional replay_says
-replay_once bytes (prints a t) (prints b u) (s, i, (w, h)) (r, j, (v, k)) = one_said s r a b t u (one_script bytes s r i j) h k
-replay_once bytes (prints a t) (refuses refusals.TooLarge) (s, i, (w, h)) (r, j, v) = absurd (within_passes s r (one_script bytes s r i j) w v)
-replay_once bytes (prints a t) (refuses refusals.BadScript) (s, i, h) f = absurd (f s i)
+replay_once bytes (prints a t) (prints b u) (s, i, p, (w, h)) (r, j, q, (v, k)) = one_said s r a b t u (one_script bytes s r i j) h k
+replay_once bytes (prints a t) (refuses refusals.TooLarge) (s, i, p, (w, h)) (r, j, v) = absurd (within_passes s r (one_script bytes s r i j) w v)
+replay_once bytes (prints a t) (refuses refusals.BadScript) (s, i, p, h) f = absurd (f s i)
 replay_once bytes (prints a t) (refuses refusals.NotBuilt) h k = absurd k
-replay_once bytes (refuses refusals.TooLarge) (prints b u) (r, j, v) (s, i, (w, h)) = absurd (within_passes s r (one_script bytes s r i j) w v)
+replay_once bytes (refuses refusals.TooLarge) (prints b u) (r, j, v) (s, i, p, (w, h)) = absurd (within_passes s r (one_script bytes s r i j) w v)
 replay_once bytes (refuses refusals.TooLarge) (refuses refusals.TooLarge) h k = refl
 replay_once bytes (refuses refusals.TooLarge) (refuses refusals.BadScript) (s, i, v) f = absurd (f s i)
 replay_once bytes (refuses refusals.TooLarge) (refuses refusals.NotBuilt) h k = absurd k
-replay_once bytes (refuses refusals.BadScript) (prints b u) f (s, i, h) = absurd (f s i)
+replay_once bytes (refuses refusals.BadScript) (prints b u) f (s, i, p, h) = absurd (f s i)
 replay_once bytes (refuses refusals.BadScript) (refuses refusals.TooLarge) f (s, i, v) = absurd (f s i)
 replay_once bytes (refuses refusals.BadScript) (refuses refusals.BadScript) h k = refl
 replay_once bytes (refuses refusals.BadScript) (refuses refusals.NotBuilt) h k = absurd k

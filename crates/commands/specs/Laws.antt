@@ -1,21 +1,19 @@
 -- What the bytes of a script determine.
-use Rattle.std.specs.Prelude.{ℕ, ◌≡◌, ◌≤◌, Bool, true, false, List, Some, length}
-use Rattle.run_check.specs.Carried.{IsCarried}
+use Rattle.std.specs.Prelude.{ℕ, ◌≡◌, ◌≤◌, Bool, true, false, List, Some, codes, length}
 use Rattle.run_check.specs.Reach.{Reach}
-use Rattle.run_grammar.specs.declared.answer.Entry.{Entry}
-use Rattle.runcheck.specs.Print.{run_text}
-use Rattle.runcheck.specs.declared.ending.Ending.{Ending}
 use Rattle.scripts.specs.Replay.{IsScript, is_within}
 use Rattle.scripts.specs.declared.replay.Script.{Script}
 use Rattle.shell.specs.Determined.{is_answer}
+use Rattle.shell.specs.Said.{Said, prints}
 use Rattle.shell.specs.Shell.{Served}
 use Rattle.shell.specs.Sink.{SinkView}
 use Rattle.shell.specs.Source.{SourceView}
 use Rattle.shell.specs.declared.status.Ended.{Ended}
 use Rattle.shell.specs.declared.status.Ended.TheVariants.{Printed, Refused, Shell}
+use Rattle.shell.specs.declared.status.PrintStatus.{PrintStatus}
 use Rattle.shell.specs.declared.status.PrintStatus.TheVariants as outcomes
-use Rattle.commands.specs.Replay.{Replays, replay_says}
-use Rattle.world_run.specs.Outcome.{came_to}
+use Rattle.commands.specs.Check.{check_says, line_of}
+use Rattle.commands.specs.Replay.{replay_says}
 
 -- a whole print was written
 abbrev pub is_printed : Ended → Bool
@@ -29,7 +27,13 @@ EachScriptIsReplayed {K} view = (bytes : List ℕ) (s : Script) (ended : Ended) 
     before.left ≡ Some bytes → length bytes ≤ 16777216 → IsScript bytes s → is_within s ≡ true → is_answer ended ≡ true →
     Served view replay_says ended before after old new → is_printed ended ≡ true
 
--- What the replay of a script prints, where a text carries it, is the print of a whole run, unless the fuel was used up.
+-- What `replay` prints is the print of a whole run, unless the fuel was used up: `check` says Yes of it, or No.
 abbrev pub ReplaysAreReached : Type 0
-ReplaysAreReached = (s : Script) (log : List Entry) (e : Ending) → Replays s log e → IsCarried s.head log e →
-    ((came_to e ≡ outcomes.Unfinished → ⊥) → Reach (run_text s.head log e)) × (came_to e ≡ outcomes.Unfinished → Reach (run_text s.head log e) → ⊥)
+ReplaysAreReached = (bytes text : List ℕ) (outcome : PrintStatus) → replay_says bytes (prints outcome text) →
+    ((outcome ≡ outcomes.Unfinished → ⊥) → Reach text) × (outcome ≡ outcomes.Unfinished → Reach text → ⊥)
+
+-- What `replay` prints is answered by `check`: Yes where it has an output, an error, a stop or a payload of another type, and
+-- No where it is Unfinished.
+abbrev pub ReplaysAreChecked : Type 0
+ReplaysAreChecked = (bytes text : List ℕ) (outcome : PrintStatus) (said : Said) → replay_says bytes (prints outcome text) → check_says text said →
+    ((outcome ≡ outcomes.Unfinished → ⊥) → said ≡ prints outcomes.Ok (line_of (codes "yes"))) × (outcome ≡ outcomes.Unfinished → said ≡ prints outcomes.CheckNo (line_of (codes "no")))

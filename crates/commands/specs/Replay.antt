@@ -1,12 +1,13 @@
 -- What `replay` says of its input.
-use Rattle.std.specs.Prelude.{ℕ, ◌≡◌, true, false, List, []}
+use Rattle.std.specs.Prelude.{ℕ, ◌≡◌, true, false, List, [], IsUtf8}
+use Rattle.json_back.specs.Lines.{are_readable}
 use Rattle.orchestrate.specs.Script.{Spelled}
 use Rattle.orchestrate.specs.declared.script.ScriptAnswer.{ScriptAnswer}
 use Rattle.run_grammar.specs.declared.answer.Entry.{Entry}
 use Rattle.runcheck.specs.Endings.{Ends}
-use Rattle.runcheck.specs.Print.{run_text}
+use Rattle.runcheck.specs.Print.{run_data, run_text}
 use Rattle.runcheck.specs.declared.ending.Ending.{Ending}
-use Rattle.scripts.specs.Replay.{IsScript, is_within}
+use Rattle.scripts.specs.Replay.{IsScript, is_within, script_spellable}
 use Rattle.scripts.specs.declared.replay.Script.{Script}
 use Rattle.shell.specs.Said.{Said, prints, refuses}
 use Rattle.shell.specs.declared.status.PrintStatus.{PrintStatus}
@@ -17,9 +18,10 @@ use Rattle.world_run.specs.Outcome.{came_to}
 abbrev pub Replays : Script → List Entry → Ending → Type 0
 Replays s log e = Ends s.head [] log e × (left_over : List ScriptAnswer) × Spelled s.answers log left_over
 
--- The text is the print of the script's run and of its ending, and this is what the ending comes to.
+-- The text is the print of the script's run and of its ending, and this is what the ending comes to. Each line is data that
+-- JSON carries, and the text is of characters.
 abbrev pub IsReplay : Script → List ℕ → PrintStatus → Type 0
-IsReplay s text outcome = (log : List Entry) × (e : Ending) × Replays s log e × (text ≡ run_text s.head log e) × (outcome ≡ came_to e)
+IsReplay s text outcome = (log : List Entry) × (e : Ending) × Replays s log e × (text ≡ run_text s.head log e) × (outcome ≡ came_to e) × (are_readable (run_data s.head log e) ≡ true) × IsUtf8 (run_text s.head log e)
 
 -- what it says of a script: the print of its run where it is within its limits
 abbrev pub script_says : Script → Said → Type 0
@@ -28,9 +30,9 @@ script_says s (refuses refusals.TooLarge) = is_within s ≡ false
 script_says s (refuses refusals.BadScript) = ⊥
 script_says s (refuses refusals.NotBuilt) = ⊥
 
--- The bytes are a script and it says this of it, or they are none.
+-- The bytes are a script and it says this of it, or they are none. JSON spells what is replayed.
 abbrev pub replay_says : List ℕ → Said → Type 0
-replay_says bytes (prints outcome text) = (s : Script) × IsScript bytes s × script_says s (prints outcome text)
+replay_says bytes (prints outcome text) = (s : Script) × IsScript bytes s × (script_spellable s ≡ true) × script_says s (prints outcome text)
 replay_says bytes (refuses refusals.TooLarge) = (s : Script) × IsScript bytes s × script_says s (refuses refusals.TooLarge)
 replay_says bytes (refuses refusals.BadScript) = (s : Script) → IsScript bytes s → ⊥
 replay_says bytes (refuses refusals.NotBuilt) = ⊥

@@ -1,6 +1,6 @@
 //! What holds of every replay. Each law is the contract of a function without a body.
 ghost use Rattle.shell.specs.Determined.{OneStatus, OneText};
-ghost use Rattle.commands.specs.Laws.{EachScriptIsReplayed, ReplaysAreReached};
+ghost use Rattle.commands.specs.Laws.{EachScriptIsReplayed, ReplaysAreChecked, ReplaysAreReached};
 ghost use Rattle.commands.specs.Replay.{replay_says};
 
 use shell::sink::Sink;
@@ -18,8 +18,9 @@ pub fn scripts_are_replayed<K: Sink>()
     ensures { EachScriptIsReplayed K.view }
 {}
 
-/// `check` answers Yes to what the replay of a script prints, where a text carries it: with the
-/// statuses 0, 10 and 12. It answers No to it with the status 11.
+/// What `replay` prints with the statuses 0, 10 and 12 is the print of a whole run, to which
+/// `check` answers Yes. What it prints with the status 11 is not, and `check` answers No to it.
 pub fn replays_are_reached()
-    ensures { ReplaysAreReached }
+    ensures reached { ReplaysAreReached }
+    ensures checked { ReplaysAreChecked }
 {}

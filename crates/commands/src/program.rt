@@ -33,8 +33,10 @@ pub fn program<R: Threads + Wait + Sync, I: Read, O: Write>(
     reader: I,
     writer: O,
 ) -> Left<I, O>
-    ensures { Ran ⟦<StdSource<I> as Source>⟧.view ⟦<StdSink<O> as Sink>⟧.view (command_of words.now) result.status
-        (record { reader = reader; errors = 0 }) result.source (record { writer = writer; errors = 0 }) result.sink }
+    ensures { Ran ⟦<StdSource<I> as Source>⟧.view ⟦<StdSink<O> as Sink>⟧.view (command_of words.now)
+        result.status
+        (record { reader = reader; errors = 0 }) result.source
+        (record { writer = writer; errors = 0 }) result.sink }
 {
     let mut source = StdSource::new(reader);
     let mut sink = StdSink::new(writer);

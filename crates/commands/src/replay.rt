@@ -64,7 +64,8 @@ fn print_of_script(alloc: Global, script: Script) -> Result<(Vec<u8>, PrintStatu
 // Runs the operation to its end, or to its stop point.
 fn run_script(alloc: Global, head: &RunHead, world: &mut ScriptWorld) -> Result<Ending, OutOfMemory>
     ensures ends { IfOk result (λ e. Ends head.now world.old.log world.new.log e) }
-    ensures spelled { IfOk result (λ e. world.old.log ≡ [] → Spelled world.old.answers world.new.log world.new.answers) }
+    ensures spelled { IfOk result
+        (λ e. world.old.log ≡ [] → Spelled world.old.answers world.new.log world.new.answers) }
 {
     let operation = PayloadOperation::named(Text::new(), Text::new());
     run_over(alloc, &operation, head, world)

@@ -29,7 +29,8 @@ pub fn run<R: Threads + Wait + Sync, S: Source, K: Sink>(
     source: &mut S,
     sink: &mut K,
 ) -> Status
-    ensures { Ran S.view K.view (command_of words.now) result source.old source.new sink.old sink.new }
+    ensures { Ran S.view K.view (command_of words.now) result source.old source.new sink.old
+        sink.new }
 {
     run_gated(rt, alloc, words, source, sink, &OpenGate)
 }
@@ -44,7 +45,8 @@ pub fn run_gated<R: Threads + Wait + Sync, S: Source, K: Sink, G: Gate + Sync>(
     sink: &mut K,
     _gate: &G,
 ) -> Status
-    ensures { Ran S.view K.view (command_of words.now) result source.old source.new sink.old sink.new }
+    ensures { Ran S.view K.view (command_of words.now) result source.old source.new sink.old
+        sink.new }
 {
     match command_in(words) {
         Some(Command::Fleet) => show(alloc, &Unbuilt, sink).status(),
@@ -60,7 +62,8 @@ pub fn run_alone<S: Source, K: Sink>(
     sink: &mut K,
 ) -> Status
     requires { command_of words.now ≢ Some Command.Fleet }
-    ensures { Ran S.view K.view (command_of words.now) result source.old source.new sink.old sink.new }
+    ensures { Ran S.view K.view (command_of words.now) result source.old source.new sink.old
+        sink.new }
 {
     ended_alone(alloc, command_in(words), source, sink).status()
 }

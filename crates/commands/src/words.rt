@@ -1,6 +1,7 @@
 //! The words of a command line.
 ghost use Rattle.std.specs.Prelude.{◌≡◌, Some};
-ghost use Rattle.commands.specs.Words.{number_word, digits_number, with_digit, one_word, command_of};
+ghost use Rattle.commands.specs.Words.{number_word, digits_number, with_digit, one_word};
+ghost use Rattle.commands.specs.Words.{command_of};
 
 use smithy_types::Text;
 

@@ -1,6 +1,7 @@
 //! Start, Wait, Load, Transmit, Body, Abandon and Park.
 ghost use Rattle.std.specs.Prelude.{◌≡◌, IfOk};
-ghost use Rattle.components.specs.Calling.{Abandons, Parks, Reads, Starts, Transmits, Waits, is_choose};
+ghost use Rattle.components.specs.Calling.{Abandons, Parks, Reads, Starts, Transmits, Waits};
+ghost use Rattle.components.specs.Calling.{is_choose};
 
 use crate::Parts;
 use auth_endpoint::AuthScheme;
@@ -63,7 +64,8 @@ impl<
         settings: &Settings,
         request: &Option<Shared<HttpRequest>>,
     ) -> Result<Answer, OutOfMemory>
-        ensures { IfOk result (λ a. Transmits X.makes X.sleeps self.old settings.now request.now a self.new) }
+        ensures { IfOk result (λ a. Transmits X.makes X.sleeps self.old settings.now request.now a
+            self.new) }
     {
         transmit(alloc, settings, request, &mut self.call, &mut self.outside)
     }
@@ -75,7 +77,8 @@ impl<
         settings: &Settings,
         response: &Option<Shared<HttpResponse>>,
     ) -> Result<Answer, OutOfMemory>
-        ensures { IfOk result (λ a. Reads X.makes X.sleeps self.old settings.now response.now a self.new) }
+        ensures { IfOk result (λ a. Reads X.makes X.sleeps self.old settings.now response.now a
+            self.new) }
     {
         body(alloc, settings, response, &mut self.call, &mut self.outside)
     }

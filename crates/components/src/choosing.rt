@@ -27,7 +27,8 @@ impl<
 > Parts<X, Q, C, I, A, R, Z, D> {
     /// Chooses an auth scheme, and asks for its identity.
     pub fn choose(&mut self, alloc: Global, settings: &Settings) -> Result<Answer, OutOfMemory>
-        ensures { IfOk result (λ a. Chooses X.makes A.names R.polls self.old settings.now a self.new) }
+        ensures { IfOk result (λ a. Chooses X.makes A.names R.polls self.old settings.now a
+            self.new) }
     {
         self.identities.choose(
             alloc,

@@ -1,4 +1,5 @@
-//! What holds of every list that a client serves. The function does nothing: its contract is the law.
+//! What holds of every list that a client serves. The function does nothing: its contract is the
+//! law.
 ghost use Rattle.retry_quota.specs.Calls.{limiters_by};
 ghost use Rattle.components.specs.Paying.{FurtherAttemptsArePaid};
 
@@ -25,9 +26,21 @@ pub fn further_attempts_are_paid<
     ensures { FurtherAttemptsArePaid (record {
       makes = X.makes;
       sleeps = X.sleeps;
-      quota = record { meaning = Q.meaning; permit_bucket = Q.permit_bucket; permit_amount = Q.permit_amount; limiters = limiters_by Q.Limiter.at Q.Limiter.after_acquire Q.Limiter.reply_to Q.Limiter.after_update };
+      quota = record {
+        meaning = Q.meaning;
+        permit_bucket = Q.permit_bucket;
+        permit_amount = Q.permit_amount;
+        limiters = limiters_by Q.Limiter.at
+            Q.Limiter.after_acquire Q.Limiter.reply_to Q.Limiter.after_update;
+      };
       says = C.says;
-      chain = record { names = I.names; hooks = I.hooks; runs = I.runs; with_bucket = I.with_bucket; with_verdict = I.with_verdict };
+      chain = record {
+        names = I.names;
+        hooks = I.hooks;
+        runs = I.runs;
+        with_bucket = I.with_bucket;
+        with_verdict = I.with_verdict;
+      };
       names = A.names;
       signs = A.signs;
       polls = R.polls;

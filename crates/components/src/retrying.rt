@@ -1,7 +1,8 @@
 //! Configure, Hook, Initial and Decide.
 ghost use Rattle.std.specs.Prelude.{◌≡◌, IfOk, None};
 ghost use Rattle.retry_quota.specs.Calls.{limiters_by};
-ghost use Rattle.components.specs.Retrying.{Begins, Configures, Decides, RunsHook, decided_view, is_first, sleeps_after, sleeps_ended};
+ghost use Rattle.components.specs.Retrying.{Begins, Configures, Decides, RunsHook, decided_view};
+ghost use Rattle.components.specs.Retrying.{is_first, sleeps_after, sleeps_ended};
 ghost use Rattle.retry_policy.specs.Verdict.{verdict_of};
 ghost use Rattle.retry_parts.specs.Hooking.{seen_context};
 ghost use Rattle.smithy_types.specs.Chain.{Chained};
@@ -57,7 +58,21 @@ impl<
         hook: Hook,
         view: &HookView,
     ) -> Result<Answer, OutOfMemory>
-        ensures { IfOk result (λ a. RunsHook X.makes C.says (record { meaning = Q.meaning; permit_bucket = Q.permit_bucket; permit_amount = Q.permit_amount; limiters = limiters_by Q.Limiter.at Q.Limiter.after_acquire Q.Limiter.reply_to Q.Limiter.after_update }) (record { names = I.names; hooks = I.hooks; runs = I.runs; with_bucket = I.with_bucket; with_verdict = I.with_verdict }) self.old hook view.now a self.new) }
+        ensures { IfOk result (λ a. RunsHook X.makes C.says
+            (record {
+              meaning = Q.meaning;
+              permit_bucket = Q.permit_bucket;
+              permit_amount = Q.permit_amount;
+              limiters = limiters_by Q.Limiter.at
+                  Q.Limiter.after_acquire Q.Limiter.reply_to Q.Limiter.after_update;
+            })
+            (record {
+              names = I.names;
+              hooks = I.hooks;
+              runs = I.runs;
+              with_bucket = I.with_bucket;
+              with_verdict = I.with_verdict;
+            }) self.old hook view.now a self.new) }
     {
         end_sleeps(&mut self.sleeps, &mut self.outside, hook);
         run_hook(
@@ -73,7 +88,15 @@ impl<
 
     /// Whether an attempt is begun.
     pub fn initial(&mut self, alloc: Global, settings: &Settings) -> Result<Answer, OutOfMemory>
-        ensures { IfOk result (λ a. Begins X.makes (record { meaning = Q.meaning; permit_bucket = Q.permit_bucket; permit_amount = Q.permit_amount; limiters = limiters_by Q.Limiter.at Q.Limiter.after_acquire Q.Limiter.reply_to Q.Limiter.after_update }) self.old settings.now a self.new) }
+        ensures { IfOk result (λ a. Begins X.makes
+            (record {
+              meaning = Q.meaning;
+              permit_bucket = Q.permit_bucket;
+              permit_amount = Q.permit_amount;
+              limiters = limiters_by Q.Limiter.at
+                  Q.Limiter.after_acquire Q.Limiter.reply_to Q.Limiter.after_update;
+            }) self.old
+            settings.now a self.new) }
     {
         initial(
             alloc,
@@ -95,7 +118,15 @@ impl<
         outcome: &Option<Outcome>,
         attempt: u64,
     ) -> Result<Answer, OutOfMemory>
-        ensures { IfOk result (λ a. Decides X.makes C.says (record { meaning = Q.meaning; permit_bucket = Q.permit_bucket; permit_amount = Q.permit_amount; limiters = limiters_by Q.Limiter.at Q.Limiter.after_acquire Q.Limiter.reply_to Q.Limiter.after_update }) self.old (decided_view settings.now request.now response.now outcome.now attempt) a self.new) }
+        ensures { IfOk result (λ a. Decides X.makes C.says
+            (record {
+              meaning = Q.meaning;
+              permit_bucket = Q.permit_bucket;
+              permit_amount = Q.permit_amount;
+              limiters = limiters_by Q.Limiter.at
+                  Q.Limiter.after_acquire Q.Limiter.reply_to Q.Limiter.after_update;
+            }) self.old
+            (decided_view settings.now request.now response.now outcome.now attempt) a self.new) }
     {
         let context = context_of(decided_view(settings, request, response, outcome, attempt)?);
         decide(
@@ -117,8 +148,8 @@ fn is_first(stage: ConfigureStage) -> bool
     matches!(stage, ConfigureStage::Client)
 }
 
-// Gives up the sleeps that end at this hook: the attempt's deadline before its completion, and every
-// sleep before the operation's.
+// Gives up the sleeps that end at this hook: the attempt's deadline before its completion, and
+// every sleep before the operation's.
 fn end_sleeps<X: Outside>(sleeps: &mut Sleeps, outside: &mut X, hook: Hook)
     ensures sleeps { sleeps.new ≡ sleeps_after hook sleeps.old }
     ensures calls { Chained X.makes outside.old (sleeps_ended hook sleeps.old) outside.new }
@@ -138,7 +169,8 @@ fn decided_view(
     outcome: &Option<Outcome>,
     attempt: u64,
 ) -> Result<HookView, OutOfMemory>
-    ensures { IfOk result (λ v. v ≡ decided_view settings.now request.now response.now outcome.now attempt) }
+    ensures { IfOk result (λ v. v ≡
+        decided_view settings.now request.now response.now outcome.now attempt) }
 {
     Ok(HookView {
         input: None,

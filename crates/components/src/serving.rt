@@ -35,9 +35,21 @@ impl<
         ensures { IfOk result (λ a. Answers (record {
           makes = X.makes;
           sleeps = X.sleeps;
-          quota = record { meaning = Q.meaning; permit_bucket = Q.permit_bucket; permit_amount = Q.permit_amount; limiters = limiters_by Q.Limiter.at Q.Limiter.after_acquire Q.Limiter.reply_to Q.Limiter.after_update };
+          quota = record {
+            meaning = Q.meaning;
+            permit_bucket = Q.permit_bucket;
+            permit_amount = Q.permit_amount;
+            limiters = limiters_by Q.Limiter.at
+                Q.Limiter.after_acquire Q.Limiter.reply_to Q.Limiter.after_update;
+          };
           says = C.says;
-          chain = record { names = I.names; hooks = I.hooks; runs = I.runs; with_bucket = I.with_bucket; with_verdict = I.with_verdict };
+          chain = record {
+            names = I.names;
+            hooks = I.hooks;
+            runs = I.runs;
+            with_bucket = I.with_bucket;
+            with_verdict = I.with_verdict;
+          };
           names = A.names;
           signs = A.signs;
           polls = R.polls;

@@ -65,7 +65,8 @@ impl<
 
     /// Ends what is open, and exchanges the outside and the quota for these.
     pub fn swap_parts(&mut self, outside: &mut X, quota: &mut Q)
-        ensures parts { Exchanges X.makes self.old.parts outside.old quota.old self.new.parts outside.new quota.new }
+        ensures parts { Exchanges X.makes self.old.parts outside.old quota.old self.new.parts
+            outside.new quota.new }
         ensures log { self.new.log ≡ self.old.log }
     {
         self.parts.exchange(outside, quota);
@@ -73,8 +74,18 @@ impl<
 
     /// Gives the permit back that the retry strategy holds.
     pub fn close(&mut self)
-        ensures strategy { Closes (record { meaning = Q.meaning; permit_bucket = Q.permit_bucket; permit_amount = Q.permit_amount; limiters = limiters_by Q.Limiter.at Q.Limiter.after_acquire Q.Limiter.reply_to Q.Limiter.after_update }) self.old.parts.strategy self.old.parts.quota self.new.parts.strategy self.new.parts.quota }
-        ensures others { self.new ≡ record self.old { parts = record self.old.parts { strategy = self.new.parts.strategy; quota = self.new.parts.quota } } }
+        ensures strategy { Closes (record {
+          meaning = Q.meaning;
+          permit_bucket = Q.permit_bucket;
+          permit_amount = Q.permit_amount;
+          limiters = limiters_by Q.Limiter.at Q.Limiter.after_acquire Q.Limiter.reply_to
+              Q.Limiter.after_update;
+        }) self.old.parts.strategy self.old.parts.quota
+            self.new.parts.strategy self.new.parts.quota }
+        ensures others { self.new ≡ record self.old {
+          parts = record self.old.parts
+              { strategy = self.new.parts.strategy; quota = self.new.parts.quota };
+        } }
     {
         self.parts.strategy.close(&mut self.parts.quota);
     }
@@ -82,7 +93,8 @@ impl<
     // Puts the question with this answer in the place of the last entry.
     fn note(&mut self, question: Question, answer: Answer)
         requires { (before : List Entry) × (last : Entry) × (self.old.log ≡ before ++ last ∷ []) }
-        ensures log { (before : List Entry) (last : Entry) → self.old.log ≡ before ++ last ∷ [] → self.new.log ≡ before ++ entry question answer ∷ [] }
+        ensures log { (before : List Entry) (last : Entry) → self.old.log ≡ before ++ last ∷ [] →
+            self.new.log ≡ before ++ entry question answer ∷ [] }
         ensures parts { self.new.parts ≡ self.old.parts }
     {
         let place = self.log.len() - 1;
@@ -108,9 +120,21 @@ impl<
     ghost relates = { λ w l v. Served (record {
       makes = X.makes;
       sleeps = X.sleeps;
-      quota = record { meaning = Q.meaning; permit_bucket = Q.permit_bucket; permit_amount = Q.permit_amount; limiters = limiters_by Q.Limiter.at Q.Limiter.after_acquire Q.Limiter.reply_to Q.Limiter.after_update };
+      quota = record {
+        meaning = Q.meaning;
+        permit_bucket = Q.permit_bucket;
+        permit_amount = Q.permit_amount;
+        limiters = limiters_by Q.Limiter.at
+            Q.Limiter.after_acquire Q.Limiter.reply_to Q.Limiter.after_update;
+      };
       says = C.says;
-      chain = record { names = I.names; hooks = I.hooks; runs = I.runs; with_bucket = I.with_bucket; with_verdict = I.with_verdict };
+      chain = record {
+        names = I.names;
+        hooks = I.hooks;
+        runs = I.runs;
+        with_bucket = I.with_bucket;
+        with_verdict = I.with_verdict;
+      };
       names = A.names;
       signs = A.signs;
       polls = R.polls;

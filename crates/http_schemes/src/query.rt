@@ -1,7 +1,9 @@
 //! Signing by the query of a request's target.
-ghost use Rattle.std.specs.Prelude.{◌≡◌, ◌++◌, [], None, Some, IfOk, OnOk, flat_map, string_bytes, option_copied, unwrap_or};
+ghost use Rattle.std.specs.Prelude.{◌≡◌, ◌++◌, [], None, Some, IfOk, OnOk, flat_map, string_bytes};
+ghost use Rattle.std.specs.Prelude.{option_copied, unwrap_or};
 ghost use Rattle.http_uri.specs.Uri.{uri_scheme, uri_authority};
-ghost use Rattle.http_schemes.specs.Query.{pieces, piece_name, kept_text, query_with, scheme_text, signed_text, IsReadAs, IsChecked, SignsTarget};
+ghost use Rattle.http_schemes.specs.Query.{pieces, piece_name, kept_text, query_with, scheme_text};
+ghost use Rattle.http_schemes.specs.Query.{signed_text, IsReadAs, IsChecked, SignsTarget};
 ghost use Rattle.http_schemes.specs.Signing.{SignsByQuery};
 
 use crate::encoding::encode;

@@ -1,3 +1,4 @@
+//! The core of the identity cache: one value, which one caller at a time loads.
 ghost use Rattle.std.specs.Prelude.{◌≡◌, ◌+◌, ◌<◌, ◌≤◌, ◌||◌, MatchBool, IfOk, OnOk, OnErr};
 
 use crate::{ClearReply, Clearing, Event, EventLog};
@@ -30,6 +31,7 @@ pub enum Cleared<T> {
 /// What a cell holds.
 #[derive(Drop)]
 pub enum CellState<T> {
+    /// Nothing, and no load is open.
     Empty,
     /// The load of this ticket is open.
     Loading(u64),
@@ -65,7 +67,9 @@ fn is_expired(expiry: u64, buffer: u64, now: u64) -> bool
 
 impl<T: Clone + Drop> CellCore<T> {
     ghost use Rattle.identity_cell.specs.History.{begun_in};
-    ghost use Rattle.identity_cell.specs.Cell.{empty_cell, IsReplayed, after_begin, AnswersBegin, after_end, after_clear, reply_in, AnswersClear, is_not_yet, is_open};
+    ghost use Rattle.identity_cell.specs.Cell.{empty_cell, IsReplayed, after_begin, AnswersBegin};
+    ghost use Rattle.identity_cell.specs.Cell.{after_end, after_clear, reply_in, AnswersClear};
+    ghost use Rattle.identity_cell.specs.Cell.{is_not_yet, is_open};
 
     /// An empty cell to which nothing happened yet. A value counts as expired from so many ns
     /// before its expiry on. It takes no memory.
@@ -83,7 +87,8 @@ impl<T: Clone + Drop> CellCore<T> {
     /// has without a look at the expiry. An `Err` leaves the cell as it was.
     pub fn begin(&mut self, alloc: Global) -> Result<Begin<T>, OutOfMemory>
         ensures event { OnOk result (self.new ≡ after_begin self.old) }
-        ensures answer { IfOk result (AnswersBegin T.is_clone self.old.state (begun_in self.old.events)) }
+        ensures answer { IfOk result
+            (AnswersBegin T.is_clone self.old.state (begun_in self.old.events)) }
         ensures err { OnErr result (self.new ≡ self.old) }
     {
         match &self.state {
@@ -112,7 +117,8 @@ impl<T: Clone + Drop> CellCore<T> {
     /// The load of this ticket gave this value, which expires at this moment in ns. Where that load
     /// isn't open, nothing changes.
     pub fn done(&mut self, ticket: u64, value: T, expiry: u64)
-        ensures { self.new ≡ after_end self.old ticket (CellState.Full ticket value expiry) (Event.Done ticket expiry) }
+        ensures { self.new ≡ after_end self.old ticket (CellState.Full ticket value expiry)
+            (Event.Done ticket expiry) }
     {
         if self.is_open(ticket) {
             self.log.push(Event::Done(ticket, expiry));
@@ -141,8 +147,8 @@ impl<T: Clone + Drop> CellCore<T> {
         }
     }
 
-    /// Asks for the value at a moment in ns, where it hasn't expired. An expired value is removed. A
-    /// caller that was ever told to wait gets no value any more, and the cell keeps it. An `Err`
+    /// Asks for the value at a moment in ns, where it hasn't expired. An expired value is removed.
+    /// A caller that was ever told to wait gets no value any more, and the cell keeps it. An `Err`
     /// leaves the cell and the caller as they were.
     pub fn clear(
         &mut self,
@@ -151,8 +157,12 @@ impl<T: Clone + Drop> CellCore<T> {
         state: &mut Clearing,
     ) -> Result<Cleared<T>, OutOfMemory>
         ensures event { OnOk result (self.new ≡ after_clear self.old now state.old) }
-        ensures answer { IfOk result (AnswersClear T.is_clone self.old.state (reply_in self.old.buffer self.old.state now state.old)) }
-        ensures waited { OnOk result (state.new ≡ (state.old || is_not_yet (reply_in self.old.buffer self.old.state now state.old))) }
+        ensures answer { IfOk result
+            (AnswersClear T.is_clone self.old.state
+            (reply_in self.old.buffer self.old.state now state.old)) }
+        ensures waited { OnOk result
+            (state.new ≡ (state.old || is_not_yet
+            (reply_in self.old.buffer self.old.state now state.old))) }
         ensures err { OnErr result ((self.new ≡ self.old) × (state.new ≡ state.old)) }
     {
         let waited = state.has_waited();
@@ -188,8 +198,8 @@ impl<T: Clone + Drop> CellCore<T> {
         }
     }
 
-    /// All that happened to the cell, in its order. It is a legal history, and the cell stands where
-    /// it leads.
+    /// All that happened to the cell, in its order. It is a legal history, and the cell stands
+    /// where it leads.
     pub fn events(&self) -> &[Event]
         ensures events { result.now ≡ self.now.events }
         ensures legal { IsReplayed self.now }
@@ -222,11 +232,20 @@ mod tests {
 
     const SECOND: u64 = 1_000_000_000;
 
+    fn seconds(count: u64) -> u64 {
+        count.saturating_mul(SECOND)
+    }
+
+    /// A cell with a buffer of so many seconds.
+    fn cell_of(buffer: u64) -> CellCore<u64> {
+        CellCore::new(seconds(buffer))
+    }
+
     /// A cell with a buffer of 10 s in which a load of 7, which expires at 100 s, has ended.
     fn loaded(alloc: Global) -> Result<CellCore<u64>, OutOfMemory> {
-        let mut cell = CellCore::new(10 * SECOND);
+        let mut cell = cell_of(10);
         cell.begin(alloc)?;
-        cell.done(0, 7, 100 * SECOND);
+        cell.done(0, 7, seconds(100));
         Ok(cell)
     }
 
@@ -234,7 +253,7 @@ mod tests {
     fn a_value_expires_the_buffer_before_its_expiry(rt: HostRuntime) -> Result<(), Fail> {
         for (now, want) in [(1000, None), (90, None), (10, Some(7)), (500, None)] {
             let mut cell = loaded(rt.alloc())?;
-            let answer = cell.clear(rt.alloc(), now * SECOND, &mut Clearing::new())?;
+            let answer = cell.clear(rt.alloc(), seconds(now), &mut Clearing::new())?;
             let got = match answer {
                 Cleared::Value(value) => Some(value),
                 _ => None,
@@ -247,31 +266,31 @@ mod tests {
 
     #[test]
     fn a_second_caller_waits_and_then_has_the_value(rt: HostRuntime) -> Result<(), Fail> {
-        let mut cell = CellCore::new(10 * SECOND);
+        let mut cell = cell_of(10);
         let mut waiter = Clearing::new();
-        let none = cell.clear(rt.alloc(), 100 * SECOND, &mut waiter)?;
+        let none = cell.clear(rt.alloc(), seconds(100), &mut waiter)?;
         assert!(rt; matches!(none, Cleared::None));
         let first = cell.begin(rt.alloc())?;
         assert!(rt; matches!(first, Begin::Load(0)));
         let second = cell.begin(rt.alloc())?;
         assert!(rt; matches!(second, Begin::NotYet));
-        let told = cell.clear(rt.alloc(), 10 * SECOND, &mut waiter)?;
+        let told = cell.clear(rt.alloc(), seconds(10), &mut waiter)?;
         assert!(rt; matches!(told, Cleared::NotYet));
-        cell.done(1, 8, 100 * SECOND);
-        cell.done(0, 7, 100 * SECOND);
+        cell.done(1, 8, seconds(100));
+        cell.done(0, 7, seconds(100));
         let hit = cell.begin(rt.alloc())?;
         assert!(rt; matches!(hit, Begin::Value(7)));
-        let late = cell.clear(rt.alloc(), 10 * SECOND, &mut waiter)?;
+        let late = cell.clear(rt.alloc(), seconds(10), &mut waiter)?;
         assert!(rt; waiter.has_waited());
         assert!(rt; matches!(late, Cleared::None));
         let want = [
-            Event::Clear(100 * SECOND, false, ClearReply::None),
+            Event::Clear(seconds(100), false, ClearReply::None),
             Event::Begin(0),
             Event::Wait,
-            Event::Clear(10 * SECOND, false, ClearReply::NotYet),
-            Event::Done(0, 100 * SECOND),
+            Event::Clear(seconds(10), false, ClearReply::NotYet),
+            Event::Done(0, seconds(100)),
             Event::Hit(0),
-            Event::Clear(10 * SECOND, true, ClearReply::None),
+            Event::Clear(seconds(10), true, ClearReply::None),
         ];
         assert_eq!(rt; cell.events(), want.as_slice());
         Ok(())
@@ -281,7 +300,7 @@ mod tests {
     fn a_load_that_fails_or_is_dropped_leaves_the_next_to_load(
         rt: HostRuntime,
     ) -> Result<(), Fail> {
-        let mut cell: CellCore<u64> = CellCore::new(0);
+        let mut cell = cell_of(0);
         cell.begin(rt.alloc())?;
         cell.failed(0);
         let second = cell.begin(rt.alloc())?;

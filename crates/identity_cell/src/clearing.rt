@@ -1,3 +1,4 @@
+//! What a caller remembers that asks for an unexpired value.
 ghost use Rattle.std.specs.Prelude.{◌≡◌, false, true};
 
 use std::marker::Model;

@@ -1,3 +1,4 @@
+//! What happens to a cell.
 ghost use Rattle.std.specs.Prelude.{◌≡◌};
 
 /// How a caller that asked for an unexpired value was answered.

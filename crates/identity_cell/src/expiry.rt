@@ -11,8 +11,8 @@ pub fn jitter(buffer: u64, word: u64) -> u64
     (u128::from(buffer) * u128::from(word) / (1 << 65)) as u64
 }
 
-/// The moment in nanoseconds at which a loaded identity expires: its own expiration, or else so long
-/// after the load was first asked for, and the jitter more. It stops at `u64::MAX`.
+/// The moment in nanoseconds at which a loaded identity expires: its own expiration, or else so
+/// long after the load was first asked for, and the jitter more. It stops at `u64::MAX`.
 pub fn stored_expiry(
     expiration: Option<u64>,
     asked_at: u64,

@@ -163,9 +163,9 @@ impl LazyCacheBuilder {
         }
     }
 
-    /// The cache of these parts, without any identity. It takes no memory. A builder that is refused
-    /// comes back, with ZeroPartitions where no identity may be kept, or else with ShortExpiration
-    /// where the default expiration is below 15 minutes.
+    /// The cache of these parts, without any identity. It takes no memory. A builder that is
+    /// refused comes back, with ZeroPartitions where no identity may be kept, or else with
+    /// ShortExpiration where the default expiration is below 15 minutes.
     pub fn build(self) -> Result<SharedIdentityCache, (LazyCacheBuilder, BuildError)>
         ensures refused { IfErr result (λ refused. refusal self ≡ Some refused.1) }
         ensures handed_back { IfErr result (λ refused. refused.0 ≡ self) }

@@ -33,7 +33,8 @@ impl LazyCacheTerms {
     /// The moment at which an identity expires that was first asked for at this moment, by its own
     /// expiration and a random word.
     pub fn expiry_of(&self, expiration: Option<u64>, asked_at: u64, word: u64) -> u64
-        ensures { result ≡ stored_expiry expiration asked_at self.now.default_expiration self.now.buffer word }
+        ensures { result ≡ stored_expiry expiration asked_at self.now.default_expiration
+            self.now.buffer word }
     {
         stored_expiry(
             expiration,

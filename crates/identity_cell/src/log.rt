@@ -1,3 +1,4 @@
+//! The events of a cell.
 ghost use Rattle.std.specs.Prelude.{◌≡◌, [], ◌∷◌, ◌++◌, ◌+◌, ◌<◌, ◌≤◌, OnOk, OnErr};
 
 use crate::Event;

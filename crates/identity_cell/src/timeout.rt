@@ -1,6 +1,7 @@
 //! How long a load of an identity may take, where nobody says it.
 ghost use Rattle.std.specs.Prelude.{◌≡◌, ◌+◌, ◌*◌, min};
-ghost use Rattle.identity_cell.specs.Timeout.{retry_in, timeouts_in, attempt_ceiling, backoffs, load_timeout};
+ghost use Rattle.identity_cell.specs.Timeout.{retry_in, timeouts_in, attempt_ceiling, backoffs};
+ghost use Rattle.identity_cell.specs.Timeout.{load_timeout};
 
 use smithy_context::{Setting, SettingKey, Settings};
 use smithy_types::{RetryConfig, TimeoutConfig};

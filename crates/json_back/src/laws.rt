@@ -1,13 +1,16 @@
 //! What is printed as JSON is read as the same data.
-ghost use Rattle.std.specs.Prelude.{◌≡◌, ◌<◌, ◌≤◌, ◌^◌, ◌++◌, ◌∷◌, [], ◌==◌, ℕ, suc, nat_le, codes, Bool, List, true, false, Some, map, IsUtf8};
+ghost use Rattle.std.specs.Prelude.{◌≡◌, ◌<◌, ◌≤◌, ◌^◌, ◌++◌, ◌∷◌, [], ◌==◌, ℕ, suc, nat_le, codes};
+ghost use Rattle.std.specs.Prelude.{Bool, List, true, false, Some, map, IsUtf8};
 ghost use Rattle.std.specs.List.{list_all, slice_split};
 ghost use Rattle.std.specs.Str.Lines.{lines};
-ghost use Rattle.serde_json.specs.Data.{Data, unsigned, null, boolean, number, string, array, object, member, no_members, depth};
+ghost use Rattle.serde_json.specs.Data.{Data, unsigned, null, boolean, number, string, array};
+ghost use Rattle.serde_json.specs.Data.{object, member, no_members, depth};
 ghost use Rattle.serde_json.specs.Read.{read, max_depth};
 ghost use Rattle.serde_json.specs.View.{items_of};
 ghost use Rattle.serde_json.specs.Written.{compact_text, has_float};
 ghost use Rattle.json_back.specs.Carried.{is_carried};
-ghost use Rattle.json_back.specs.Lines.{is_readable, are_readable, lines_text, read_lines, is_visible, HasTexts, AllHaveTexts};
+ghost use Rattle.json_back.specs.Lines.{is_readable, are_readable, lines_text, read_lines};
+ghost use Rattle.json_back.specs.Lines.{is_visible, HasTexts, AllHaveTexts};
 
 /// The compact text of data reads as that data, and nothing more stands in it.
 pub fn compact_texts_are_read()
@@ -68,6 +71,8 @@ pub fn rows_can_be_printed()
         → depth (array (items_of ds)) ≤ suc n }
     ensures texts { (ds : List Data) → AllHaveTexts ds → HasTexts (array (items_of ds)) }
     ensures sample { (n m : ℕ) (b : Bool) (s : List ℕ) → n < 2 ^ 64 → m < 2 ^ 64
-        → is_readable (array (items_of (number (unsigned n) ∷ boolean b ∷ null ∷ array (items_of (string s ∷ number (unsigned m) ∷ []))
+        → is_readable (array (items_of
+        (number (unsigned n) ∷ boolean b ∷ null
+        ∷ array (items_of (string s ∷ number (unsigned m) ∷ []))
         ∷ object (member (codes "hex") (string s) no_members) ∷ []))) ≡ true }
 {}

@@ -1,5 +1,6 @@
 //! Reads a text of lines, each of which is a JSON value.
-ghost use Rattle.std.specs.Prelude.{◌≡◌, ◌≤◌, Some, None, false, true, map, IfOk, IfErr, string_bytes};
+ghost use Rattle.std.specs.Prelude.{◌≡◌, ◌≤◌, Some, None, false, true, map, IfOk, IfErr};
+ghost use Rattle.std.specs.Prelude.{string_bytes};
 ghost use Rattle.std.specs.Str.Lines.{lines};
 ghost use Rattle.serde_json.specs.Data.{depth};
 ghost use Rattle.serde_json.specs.Errors.{IsMemory};

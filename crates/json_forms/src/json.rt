@@ -22,8 +22,10 @@ pub struct Row {
 }
 
 impl Json {
-    ghost use Rattle.std.specs.Prelude.{[], ◌∷◌, ◌++◌, IfOk, OnOk, OnErr};
-    ghost use Rattle.serde_json.specs.Data.{null, boolean, number, string, array, object, unsigned, no_items, item, no_members, member};
+    ghost use Rattle.std.specs.Prelude.{◌≤◌, [], ◌∷◌, ◌++◌, Some, IfOk, IsUtf8, OnOk, OnErr};
+    ghost use Rattle.serde_json.specs.Data.{null, boolean, number, string, array, object, unsigned};
+    ghost use Rattle.serde_json.specs.Data.{no_items, item, no_members, member, depth};
+    ghost use Rattle.serde_json.specs.Read.{read, max_depth};
     ghost use Rattle.serde_json.specs.View.{items_of};
     ghost use Rattle.serde_json.specs.Written.{compact_text};
     ghost use Rattle.json_forms.specs.JsonData.{data_of, items_in};
@@ -84,7 +86,8 @@ impl Json {
 
     /// An array of two items.
     pub fn pair(alloc: Global, first: Json, second: Json) -> Result<Json, OutOfMemory>
-        ensures { IfOk result (λ j. data_of j ≡ array (item (data_of first) (item (data_of second) no_items))) }
+        ensures { IfOk result (λ j. data_of j ≡
+            array (item (data_of first) (item (data_of second) no_items))) }
     {
         let mut row = Row::new(alloc);
         row.push(first)?;
@@ -99,7 +102,8 @@ impl Json {
         second: Json,
         third: Json,
     ) -> Result<Json, OutOfMemory>
-        ensures { IfOk result (λ j. data_of j ≡ array (item (data_of first) (item (data_of second) (item (data_of third) no_items)))) }
+        ensures { IfOk result (λ j. data_of j ≡
+            array (item (data_of first) (item (data_of second) (item (data_of third) no_items)))) }
     {
         let mut row = Row::new(alloc);
         row.push(first)?;
@@ -129,14 +133,16 @@ impl Json {
 
     /// An array of a text and an item.
     pub fn tagged(alloc: Global, tag: &str, json: Json) -> Result<Json, OutOfMemory>
-        ensures { IfOk result (λ j. data_of j ≡ array (item (string tag.now) (item (data_of json) no_items))) }
+        ensures { IfOk result (λ j. data_of j ≡
+            array (item (string tag.now) (item (data_of json) no_items))) }
     {
         Json::pair(alloc, Json::text(alloc, tag)?, json)
     }
 
     /// An object of one member.
     pub fn of_member(alloc: Global, name: &str, json: Json) -> Result<Json, OutOfMemory>
-        ensures { IfOk result (λ j. data_of j ≡ object (member name.now (data_of json) no_members)) }
+        ensures { IfOk result (λ j. data_of j ≡
+            object (member name.now (data_of json) no_members)) }
     {
         let mut members = Map::new(alloc);
         put(&mut members, alloc, name, json.value)?;
@@ -145,9 +151,14 @@ impl Json {
         })
     }
 
-    /// Writes the value as compact JSON text at the end, and a line feed.
+    /// Writes the value as compact JSON text at the end, and a line feed. The text is of
+    /// characters, and it is read as the same value where that nests no deeper than a reader goes.
     pub fn write_line(&self, alloc: Global, out: &mut Vec<u8>) -> Result<(), OutOfMemory>
-        ensures { OnOk result (out.new.items ≡ out.old.items ++ compact_text (data_of self.now) ++ 10 ∷ []) }
+        ensures text { OnOk result (out.new.items ≡ out.old.items ++ compact_text (data_of self.now)
+            ++ 10 ∷ []) }
+        ensures read_back { OnOk result (depth (data_of self.now) ≤ max_depth
+            → read (compact_text (data_of self.now)) ≡ Some (data_of self.now)) }
+        ensures characters { OnOk result (IsUtf8 (compact_text (data_of self.now))) }
     {
         let text = self.value.to_vec(alloc)?;
         out.extend_from_slice(&text)?;
@@ -158,7 +169,8 @@ impl Json {
 
 impl Row {
     ghost use Rattle.std.specs.Prelude.{[], ◌∷◌, ◌++◌, IfOk, OnOk, OnErr};
-    ghost use Rattle.serde_json.specs.Data.{null, boolean, number, string, array, object, unsigned, no_items, item, no_members, member};
+    ghost use Rattle.serde_json.specs.Data.{null, boolean, number, string, array, object, unsigned};
+    ghost use Rattle.serde_json.specs.Data.{no_items, item, no_members, member};
     ghost use Rattle.serde_json.specs.View.{items_of};
     ghost use Rattle.serde_json.specs.Written.{compact_text};
     ghost use Rattle.json_forms.specs.JsonData.{data_of, items_in};

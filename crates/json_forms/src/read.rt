@@ -2,7 +2,8 @@
 ghost use Rattle.std.specs.Prelude.{◌≡◌, ◌^◌};
 ghost use Rattle.serde_json.specs.Find.{as_array, as_bool, as_str, get};
 ghost use Rattle.serde_json.specs.View.{view, items_view};
-ghost use Rattle.json_forms.specs.Plain.{number_at, number_below, pair_at, triple_at, quadruple_at, quintuple_at, sextuple_at, septuple_at};
+ghost use Rattle.json_forms.specs.Plain.{number_at, number_below, pair_at, triple_at, quadruple_at};
+ghost use Rattle.json_forms.specs.Plain.{quintuple_at, sextuple_at, septuple_at};
 ghost use Rattle.json_forms.specs.Reading.{Reads, Gives};
 ghost use Rattle.json_forms.specs.Tuples.{two_of, three_of, four_of, five_of, six_of, seven_of};
 
@@ -180,7 +181,8 @@ pub fn four(items: &[Value]) -> Result<(&Value, &Value, &Value, &Value), ReadErr
 
 /// The items of an array of five.
 pub fn quintuple(value: &Value) -> Result<(&Value, &Value, &Value, &Value, &Value), ReadError>
-    ensures { Gives (λ p. (view p.0.now, view p.1.now, view p.2.now, view p.3.now, view p.4.now)) result (quintuple_at (view value.now)) }
+    ensures { Gives (λ p. (view p.0.now, view p.1.now, view p.2.now, view p.3.now, view p.4.now))
+        result (quintuple_at (view value.now)) }
 {
     five(items(value)?)
 }
@@ -188,7 +190,8 @@ pub fn quintuple(value: &Value) -> Result<(&Value, &Value, &Value, &Value, &Valu
 /// Five items.
 #[tactic(auto, using(crate::proofs::OtherLength::not_five))]
 pub fn five(items: &[Value]) -> Result<(&Value, &Value, &Value, &Value, &Value), ReadError>
-    ensures { Gives (λ p. (view p.0.now, view p.1.now, view p.2.now, view p.3.now, view p.4.now)) result (five_of (items_view items.now)) }
+    ensures { Gives (λ p. (view p.0.now, view p.1.now, view p.2.now, view p.3.now, view p.4.now))
+        result (five_of (items_view items.now)) }
 {
     if items.len() != 5 {
         return Err(ReadError::Refused);
@@ -200,7 +203,14 @@ pub fn five(items: &[Value]) -> Result<(&Value, &Value, &Value, &Value, &Value),
 pub fn sextuple(
     value: &Value,
 ) -> Result<(&Value, &Value, &Value, &Value, &Value, &Value), ReadError>
-    ensures { Gives (λ p. (view p.0.now, view p.1.now, view p.2.now, view p.3.now, view p.4.now, view p.5.now)) result (sextuple_at (view value.now)) }
+    ensures { Gives (λ p. (
+      view p.0.now,
+      view p.1.now,
+      view p.2.now,
+      view p.3.now,
+      view p.4.now,
+      view p.5.now,
+    )) result (sextuple_at (view value.now)) }
 {
     six(items(value)?)
 }
@@ -208,7 +218,14 @@ pub fn sextuple(
 /// Six items.
 #[tactic(auto, using(crate::proofs::OtherLength::not_six))]
 pub fn six(items: &[Value]) -> Result<(&Value, &Value, &Value, &Value, &Value, &Value), ReadError>
-    ensures { Gives (λ p. (view p.0.now, view p.1.now, view p.2.now, view p.3.now, view p.4.now, view p.5.now)) result (six_of (items_view items.now)) }
+    ensures { Gives (λ p. (
+      view p.0.now,
+      view p.1.now,
+      view p.2.now,
+      view p.3.now,
+      view p.4.now,
+      view p.5.now,
+    )) result (six_of (items_view items.now)) }
 {
     if items.len() != 6 {
         return Err(ReadError::Refused);
@@ -222,7 +239,15 @@ pub fn six(items: &[Value]) -> Result<(&Value, &Value, &Value, &Value, &Value, &
 pub fn septuple(
     value: &Value,
 ) -> Result<(&Value, &Value, &Value, &Value, &Value, &Value, &Value), ReadError>
-    ensures { Gives (λ p. (view p.0.now, view p.1.now, view p.2.now, view p.3.now, view p.4.now, view p.5.now, view p.6.now)) result (septuple_at (view value.now)) }
+    ensures { Gives (λ p. (
+      view p.0.now,
+      view p.1.now,
+      view p.2.now,
+      view p.3.now,
+      view p.4.now,
+      view p.5.now,
+      view p.6.now,
+    )) result (septuple_at (view value.now)) }
 {
     seven(items(value)?)
 }
@@ -232,7 +257,15 @@ pub fn septuple(
 pub fn seven(
     items: &[Value],
 ) -> Result<(&Value, &Value, &Value, &Value, &Value, &Value, &Value), ReadError>
-    ensures { Gives (λ p. (view p.0.now, view p.1.now, view p.2.now, view p.3.now, view p.4.now, view p.5.now, view p.6.now)) result (seven_of (items_view items.now)) }
+    ensures { Gives (λ p. (
+      view p.0.now,
+      view p.1.now,
+      view p.2.now,
+      view p.3.now,
+      view p.4.now,
+      view p.5.now,
+      view p.6.now,
+    )) result (seven_of (items_view items.now)) }
 {
     if items.len() != 7 {
         return Err(ReadError::Refused);

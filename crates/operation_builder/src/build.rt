@@ -1,6 +1,7 @@
 //! The operation and the client that a builder builds.
 ghost use Rattle.std.specs.Prelude.{◌≡◌, None, Some, IfErr, IfOk, OnOk};
-ghost use Rattle.operation_builder.specs.Built.{HasParts, IsBuiltFrom, IsNamed, nobody, strategy_of, wanted};
+ghost use Rattle.operation_builder.specs.Built.{HasParts, IsBuiltFrom, IsNamed, nobody};
+ghost use Rattle.operation_builder.specs.Built.{strategy_of, wanted};
 ghost use Rattle.operation_builder.specs.Preparing.{IsPrepared};
 ghost use Rattle.operation_builder.specs.Refusal.{IsRefusedFor, first_absent, part_checks, refusal};
 ghost use Rattle.operation_builder.specs.declared.scheme.Scheme.TheVariants as schemes;

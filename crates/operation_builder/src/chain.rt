@@ -1,6 +1,8 @@
 //! The crate's own interceptors that a builder registers, and what of the outside is used.
 ghost use Rattle.std.specs.Prelude.{◌≡◌, ◌+◌, ◌≤◌, IfOk, is_some, length, vec_capacity, vec_len};
-ghost use Rattle.operation_builder.specs.Built.{enforcing, front_of, has_no_auth, has_sleep, has_time, is_enforced, poisoning, provider, stalled_stream, wanted};
+ghost use Rattle.operation_builder.specs.Built.{enforcing, front_of, has_no_auth, has_sleep};
+ghost use Rattle.operation_builder.specs.Built.{has_time, is_enforced, poisoning, provider};
+ghost use Rattle.operation_builder.specs.Built.{stalled_stream, wanted};
 
 use crate::plugin::{any_enforcing, any_no_auth, gives_sleep, gives_time};
 use crate::room::{push_if, room_for};
@@ -43,7 +45,8 @@ impl<I, O, E, A: AuthScheme, R: ResolveIdentity, Z, D> OperationBuilder<I, O, E,
     /// more.
     pub(crate) fn front(&self, alloc: Global) -> Result<Vec<Slot<OwnInterceptor>>, OutOfMemory>
         ensures items { IfOk result (λ front. front.items ≡ front_of self.now) }
-        ensures room { IfOk result (λ front. vec_len front + length self.now.interceptors + 1 ≤ vec_capacity front) }
+        ensures room { IfOk result (λ front. vec_len front + length self.now.interceptors + 1 ≤
+            vec_capacity front) }
     {
         let mut front = room_for(alloc, &self.interceptors, OWN_INTERCEPTORS)?;
         front.push_reserved(provider());
@@ -54,7 +57,8 @@ impl<I, O, E, A: AuthScheme, R: ResolveIdentity, Z, D> OperationBuilder<I, O, E,
 
     // The one that protects streams from stalls, where they are to be protected.
     fn stalled_stream_interceptor(&self) -> Option<Slot<OwnInterceptor>>
-        ensures { result ≡ wanted (is_some self.now.stall) (stalled_stream (has_sleep self.now) (has_time self.now)) }
+        ensures { result ≡ wanted (is_some self.now.stall)
+            (stalled_stream (has_sleep self.now) (has_time self.now)) }
     {
         if self.stall.is_none() {
             return None;

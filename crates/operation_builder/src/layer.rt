@@ -2,7 +2,8 @@
 ghost use Rattle.std.specs.Prelude.{◌≡◌, [], IfOk, OnOk, option_map};
 ghost use Rattle.std.specs.List.{flat_map};
 ghost use Rattle.smithy_context.specs.Layer.{merged};
-ghost use Rattle.operation_builder.specs.ClientLayer.{mark, merged_layer, putting, with_own, with_set};
+ghost use Rattle.operation_builder.specs.ClientLayer.{mark, merged_layer, putting, with_own};
+ghost use Rattle.operation_builder.specs.ClientLayer.{with_set};
 ghost use Rattle.operation_builder.specs.Plugins.{entries_of};
 
 use crate::{OperationBuilder, Plugin};

@@ -29,7 +29,8 @@ fn put_placed(
     entries: &[LayerEntry],
     place: u8,
 ) -> Result<(), OutOfMemory>
-    ensures { OnOk result (ordered.new ≡ merged ordered.old (filter (is_placed place) entries.now)) }
+    ensures { OnOk result (ordered.new ≡
+        merged ordered.old (filter (is_placed place) entries.now)) }
 {
     for entry in entries {
         put_if_placed(ordered, alloc, entry, place)?;
@@ -44,7 +45,8 @@ fn put_if_placed(
     entry: &LayerEntry,
     place: u8,
 ) -> Result<(), OutOfMemory>
-    ensures { OnOk result (ordered.new ≡ (if is_placed place entry.now then put_entry ordered.old entry.now else ordered.old)) }
+    ensures { OnOk result (ordered.new ≡
+        (if is_placed place entry.now then put_entry ordered.old entry.now else ordered.old)) }
 {
     if place_of(&entry.key) == place {
         return ordered.set(alloc, entry.clone()?);

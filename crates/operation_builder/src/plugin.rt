@@ -1,7 +1,8 @@
 //! What is applied to a client when it is built.
 ghost use Rattle.std.specs.Prelude.{◌≡◌};
 ghost use Rattle.std.specs.List.{list_any};
-ghost use Rattle.operation_builder.specs.Plugins.{draft_of, is_enforcing, is_no_auth, is_no_auth_v2, no_draft};
+ghost use Rattle.operation_builder.specs.Plugins.{draft_of, is_enforcing, is_no_auth};
+ghost use Rattle.operation_builder.specs.Plugins.{is_no_auth_v2, no_draft};
 
 use smithy_base::ComponentsDraft;
 use smithy_context::Layer;

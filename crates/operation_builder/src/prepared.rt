@@ -64,7 +64,8 @@ impl<I, O, E, A: AuthScheme, R: ResolveIdentity, Z, D> OperationBuilder<I, O, E,
 
     // The settings, in the order in which they were given.
     fn merged(&self, alloc: Global) -> Result<Layer, OutOfMemory>
-        ensures { IfOk result (λ layer. layer ≡ merged_layer (unwrap_or self.now.service_name []) self.now) }
+        ensures { IfOk result (λ layer. layer ≡
+            merged_layer (unwrap_or self.now.service_name []) self.now) }
     {
         match &self.service_name {
             Some(name) => self.merged_layer(alloc, name),
@@ -97,7 +98,8 @@ impl<I, O, E, A: AuthScheme, R: ResolveIdentity, Z, D> OperationBuilder<I, O, E,
     // Where requests go.
     fn endpoint(&self, alloc: Global) -> Result<Shared<Endpoint>, OutOfMemory>
         requires { (url : _) × (self.now.endpoint_url ≡ Some url) }
-        ensures { IfOk result (λ e. (url : _) × (self.now.endpoint_url ≡ Some url) × (e ≡ endpoint_at url)) }
+        ensures { IfOk result (λ e. (url : _) × (self.now.endpoint_url ≡ Some url)
+            × (e ≡ endpoint_at url)) }
     {
         match &self.endpoint_url {
             Some(url) => endpoint_at(alloc, url),

@@ -1,6 +1,7 @@
 //! Why a build is refused.
 ghost use Rattle.std.specs.Prelude.{◌≡◌};
-ghost use Rattle.operation_builder.specs.Refusal.{first_absent, has_client, lacks, part_checks, setting_checks};
+ghost use Rattle.operation_builder.specs.Refusal.{first_absent, has_client, lacks, part_checks};
+ghost use Rattle.operation_builder.specs.Refusal.{setting_checks};
 
 use crate::OperationBuilder;
 use crate::plugin::gives_client;

@@ -23,7 +23,8 @@ impl<I, O, E: Drop, A: AuthScheme, R: ResolveIdentity, Z, D> OperationBuilder<I,
         alloc: Global,
         classifier: Classifier<E>,
     ) -> Result<Self, (Self, Classifier<E>, OutOfMemory)>
-        ensures ok { IfOk result (λ b. b ≡ record self { classifiers = self.classifiers ++ classifier ∷ [] }) }
+        ensures ok { IfOk result (λ b. b ≡
+            record self { classifiers = self.classifiers ++ classifier ∷ [] }) }
         ensures handed_back { IfErr result (λ back. (back.0 ≡ self) × (back.1 ≡ classifier)) }
     {
         let list = mem::replace(&mut self.classifiers, List::new());
@@ -48,7 +49,8 @@ impl<I, O, E, A: AuthScheme, R: ResolveIdentity, Z, D> OperationBuilder<I, O, E,
         alloc: Global,
         interceptor: Box<dyn Intercept>,
     ) -> Result<Self, (Self, Box<dyn Intercept>, OutOfMemory)>
-        ensures ok { IfOk result (λ b. b ≡ record self { interceptors = self.interceptors ++ Slot.Boxed interceptor ∷ [] }) }
+        ensures ok { IfOk result (λ b. b ≡
+            record self { interceptors = self.interceptors ++ Slot.Boxed interceptor ∷ [] }) }
         ensures handed_back { IfErr result (λ back. (back.0 ≡ self) × (back.1 ≡ interceptor)) }
     {
         let list = mem::replace(&mut self.interceptors, List::new());
@@ -94,7 +96,8 @@ impl<I, O, E, A: AuthScheme, R: ResolveIdentity, Z, D> OperationBuilder<I, O, E,
         alloc: Global,
         scheme: A,
     ) -> Result<Self, (Self, A, OutOfMemory)>
-        ensures ok { IfOk result (λ b. b ≡ record self { schemes = self.schemes ++ Brought scheme ∷ [] }) }
+        ensures ok { IfOk result (λ b. b ≡
+            record self { schemes = self.schemes ++ Brought scheme ∷ [] }) }
         ensures handed_back { IfErr result (λ back. (back.0 ≡ self) × (back.1 ≡ scheme)) }
     {
         let list = mem::replace(&mut self.schemes, List::new());
@@ -119,8 +122,10 @@ impl<I, O, E, A: AuthScheme, R: ResolveIdentity, Z, D> OperationBuilder<I, O, E,
         id: Text,
         source: IdentitySource<R>,
     ) -> Result<Self, (Self, RegisteredSource<R>, OutOfMemory)>
-        ensures ok { IfOk result (λ b. b ≡ record self { sources = self.sources ++ brought_source id source ∷ [] }) }
-        ensures handed_back { IfErr result (λ back. (back.0 ≡ self) × (back.1 ≡ record { id = id; source = source })) }
+        ensures ok { IfOk result (λ b. b ≡
+            record self { sources = self.sources ++ brought_source id source ∷ [] }) }
+        ensures handed_back { IfErr result
+            (λ back. (back.0 ≡ self) × (back.1 ≡ record { id = id; source = source })) }
     {
         let list = mem::replace(&mut self.sources, List::new());
         match room_for_one(alloc, list) {
@@ -160,7 +165,8 @@ impl<I, O, E, R: ResolveIdentity, Z, D> OperationBuilder<I, O, E, SharedAuthSche
         alloc: Global,
         scheme: Box<dyn AuthScheme>,
     ) -> Result<Self, (Self, Box<dyn AuthScheme>, OutOfMemory)>
-        ensures ok { IfOk result (λ b. b ≡ record self { schemes = self.schemes ++ Brought (Boxed scheme) ∷ [] }) }
+        ensures ok { IfOk result (λ b. b ≡
+            record self { schemes = self.schemes ++ Brought (Boxed scheme) ∷ [] }) }
         ensures handed_back { IfErr result (λ back. (back.0 ≡ self) × (back.1 ≡ scheme)) }
     {
         let list = mem::replace(&mut self.schemes, List::new());

@@ -1,6 +1,7 @@
 //! Lists that are given room before something is put into them, so that nothing is lost where
 //! there is no memory.
-ghost use Rattle.std.specs.Prelude.{◌≡◌, ◌++◌, ◌+◌, ◌<◌, ◌≤◌, [], IfErr, IfOk, length, option_to_list, vec_capacity, vec_len};
+ghost use Rattle.std.specs.Prelude.{◌≡◌, ◌++◌, ◌+◌, ◌<◌, ◌≤◌, [], IfErr, IfOk, length};
+ghost use Rattle.std.specs.Prelude.{option_to_list, vec_capacity, vec_len};
 
 use smithy_types::{List, OutOfMemory};
 use std::alloc::Global;

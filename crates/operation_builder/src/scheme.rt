@@ -63,7 +63,8 @@ pub enum IdentityResolver<R: ResolveIdentity> {
 impl<R: ResolveIdentity> ResolveIdentity for IdentityResolver<R> {
     ghost use Rattle.std.specs.Prelude.{◌≡◌, [], None};
     ghost use Rattle.outside.specs.declared.answers.IdentityPoll.TheVariants.{Ready};
-    ghost use Rattle.operation_builder.specs.declared.scheme.IdentityResolver.TheVariants.{NoAuth, Brought};
+    ghost use Rattle.operation_builder.specs.declared.scheme.IdentityResolver.TheVariants.{NoAuth};
+    ghost use Rattle.operation_builder.specs.declared.scheme.IdentityResolver.TheVariants.{Brought};
 
     ghost polls = { λ old answer new. elim old [
       | NoAuth nobody ↦ (answer ≡ Ready (record { content = []; expiration = None }))

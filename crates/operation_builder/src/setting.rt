@@ -2,7 +2,8 @@
 ghost use Rattle.std.specs.Prelude.{◌≡◌, Some, true, false};
 ghost use Rattle.identity_cell.specs.declared.identity_cache.SharedIdentityCache.TheVariants.{NoCache};
 ghost use Rattle.operation_builder.specs.declared.builder.AuthOptions.TheVariants.{NoAuth, Listed};
-ghost use Rattle.operation_builder.specs.declared.builder.StrategyKind.TheVariants.{Never, Standard};
+ghost use Rattle.operation_builder.specs.declared.builder.StrategyKind.TheVariants.{Never};
+ghost use Rattle.operation_builder.specs.declared.builder.StrategyKind.TheVariants.{Standard};
 
 use crate::{AuthOptions, OperationBuilder, RegisteredDeserializer, StrategyKind};
 use auth_endpoint::AuthScheme;
@@ -178,7 +179,8 @@ impl<I, O, E, A: AuthScheme, R: ResolveIdentity, Z, D: DeserializeResponse> Oper
     /// What makes outcomes of responses, of the program's own type. It is asked once a response is
     /// read.
     pub fn own_deserializer(mut self, deserializer: D) -> Self
-        ensures { result ≡ record self { deserializer = Some (record { deserializer = deserializer; may_stream = false }) } }
+        ensures { result ≡ record self
+            { deserializer = Some (record { deserializer = deserializer; may_stream = false }) } }
     {
         self.deserializer = Some(RegisteredDeserializer {
             deserializer,
@@ -189,7 +191,8 @@ impl<I, O, E, A: AuthScheme, R: ResolveIdentity, Z, D: DeserializeResponse> Oper
 
     /// The same, and it is asked by a response's head first.
     pub fn own_deserializer_impl(mut self, deserializer: D) -> Self
-        ensures { result ≡ record self { deserializer = Some (record { deserializer = deserializer; may_stream = true }) } }
+        ensures { result ≡ record self
+            { deserializer = Some (record { deserializer = deserializer; may_stream = true }) } }
     {
         self.deserializer = Some(RegisteredDeserializer {
             deserializer,
@@ -210,7 +213,10 @@ impl<I, O, E, A: AuthScheme, R: ResolveIdentity, Z> OperationBuilder<
 > {
     /// What makes outcomes of responses. It is asked once a response is read.
     pub fn deserializer(mut self, deserializer: Box<dyn DeserializeResponse>) -> Self
-        ensures { result ≡ record self { deserializer = Some (record { deserializer = Deserializer.Boxed deserializer; may_stream = false }) } }
+        ensures { result ≡ record self {
+          deserializer = Some (record
+              { deserializer = Deserializer.Boxed deserializer; may_stream = false });
+        } }
     {
         self.deserializer = Some(RegisteredDeserializer {
             deserializer: Deserializer::Boxed(deserializer),
@@ -221,7 +227,10 @@ impl<I, O, E, A: AuthScheme, R: ResolveIdentity, Z> OperationBuilder<
 
     /// What makes outcomes of responses. It is asked by a response's head first.
     pub fn deserializer_impl(mut self, deserializer: Box<dyn DeserializeResponse>) -> Self
-        ensures { result ≡ record self { deserializer = Some (record { deserializer = Deserializer.Boxed deserializer; may_stream = true }) } }
+        ensures { result ≡ record self {
+          deserializer = Some (record
+              { deserializer = Deserializer.Boxed deserializer; may_stream = true });
+        } }
     {
         self.deserializer = Some(RegisteredDeserializer {
             deserializer: Deserializer::Boxed(deserializer),

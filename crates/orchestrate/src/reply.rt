@@ -1,6 +1,5 @@
 //! What of an answer the way on depends on.
 ghost use Rattle.std.specs.Prelude.{◌≡◌};
-ghost use Rattle.run_grammar.specs.Entry.{can_wait, same_role};
 ghost use Rattle.orchestrate.specs.Replies.{reply_of, started_by, started_of};
 
 use run_grammar::{Answer, Kind, Role};
@@ -32,7 +31,7 @@ impl Reply {
         ensures { result ≡ reply_of kind attempt answer.now }
     {
         Reply {
-            pending: can_wait(kind) && matches!(answer, Answer::Pending),
+            pending: kind.can_wait() && matches!(answer, Answer::Pending),
             failed: answer.fails(kind, attempt),
             delayed: matches!(answer, Answer::Delay(_)),
             granted: matches!(answer, Answer::Go),
@@ -51,7 +50,7 @@ impl Reply {
         ensures { result ≡ started_by self.now.started role }
     {
         match self.started {
-            Some(other) => same_role(role, other),
+            Some(other) => role.is(other),
             None => false,
         }
     }
@@ -71,28 +70,4 @@ fn started(kind: Kind, answer: &Answer) -> Option<Role>
         }
         _ => None,
     }
-}
-
-/// Whether the two roles are one.
-pub fn same_role(a: Role, b: Role) -> bool
-    ensures { result ≡ same_role a b }
-{
-    match (a, b) {
-        (Role::Operation, Role::Operation) => true,
-        (Role::Attempt, Role::Attempt) => true,
-        (Role::Send, Role::Send) => true,
-        (Role::Retry, Role::Retry) => true,
-        (Role::LongPoll, Role::LongPoll) => true,
-        _ => false,
-    }
-}
-
-// Whether a question of this kind may be answered Pending.
-fn can_wait(kind: Kind) -> bool
-    ensures { result ≡ can_wait kind }
-{
-    matches!(
-        kind,
-        Kind::Load | Kind::Wait(_) | Kind::Choose | Kind::Endpoint | Kind::Transmit | Kind::Body
-    )
 }

@@ -14,7 +14,9 @@ use std::marker::Model;
 /// An answer of a script, with the kind of question that it is for.
 #[derive(Drop)]
 pub struct ScriptAnswer {
+    /// What kind of question it is for.
     pub kind: Kind,
+    /// The answer. It is taken where it fits.
     pub answer: Answer,
 }
 

@@ -2,7 +2,7 @@
 ghost use Rattle.std.specs.Prelude.{◌≡◌, if◌then◌else◌};
 ghost use Rattle.run_grammar.specs.Standing.{State};
 ghost use Rattle.run_grammar.specs.declared.answer.Entry.{Entry};
-ghost use Rattle.run_grammar.specs.Entry.{pending, abandon_of};
+ghost use Rattle.run_grammar.specs.Entry.{pending};
 ghost use Rattle.orchestrate.specs.Points.{here};
 ghost use Rattle.orchestrate.specs.Driving.{asks_at, first_wait, is_in_attempt, moved_at};
 ghost use Rattle.orchestrate.specs.Replies.{Tells};
@@ -10,7 +10,7 @@ ghost use Rattle.orchestrate.specs.Replies.{Tells};
 use crate::point::{Point, is_in_attempt, is_in_operation, kind_at};
 use crate::reply::Reply;
 use crate::way::{here, next_point};
-use run_grammar::{Abandonable, Kind, Role, Standing, StopPoint};
+use run_grammar::{Kind, Role, Standing, StopPoint};
 
 /// Which deadlines are armed.
 #[derive(Clone, Copy, Debug, PartialEq, Eq)]
@@ -59,24 +59,7 @@ pub fn asks_at(point: Point, waiting: Waiting) -> Kind
         Waiting::ForAttempt => Kind::Wait(Role::Attempt),
         Waiting::ForOperation => Kind::Wait(Role::Operation),
         Waiting::ForPark => Kind::Park,
-        Waiting::CutByAttempt | Waiting::CutByOperation => abandon_of(kind_at(point)),
-    }
-}
-
-// The kind that gives up a kind that is pending.
-fn abandon_of(kind: Kind) -> Kind
-    ensures { result ≡ abandon_of kind }
-{
-    match kind {
-        Kind::Load => Kind::Abandon(Abandonable::Load),
-        Kind::Choose => Kind::Abandon(Abandonable::Choose),
-        Kind::Endpoint => Kind::Abandon(Abandonable::Endpoint),
-        Kind::Transmit => Kind::Abandon(Abandonable::Transmit),
-        Kind::Body => Kind::Abandon(Abandonable::Body),
-        Kind::Wait(Role::Send) => Kind::Abandon(Abandonable::WaitSend),
-        Kind::Wait(Role::Retry) => Kind::Abandon(Abandonable::WaitRetry),
-        Kind::Wait(Role::LongPoll) => Kind::Abandon(Abandonable::WaitLongPoll),
-        _ => Kind::Park,
+        Waiting::CutByAttempt | Waiting::CutByOperation => kind_at(point).given_up_by(),
     }
 }
 

@@ -13,7 +13,8 @@ use std::alloc::Global;
 pub trait Outside: Timers {
     ghost use Rattle.std.specs.Prelude.{◌≡◌, ℕ};
     ghost use Rattle.smithy_types.specs.declared.timers.TimersCall.{TimersCall};
-    ghost use Rattle.outside.specs.Calls.{OutsideCall, OfTimers, Begin, Poll, Frame, DropCall, Resolve, DropResolve, Word, Poison, Park};
+    ghost use Rattle.outside.specs.Calls.{OutsideCall, OfTimers, Begin, Poll, Frame, DropCall};
+    ghost use Rattle.outside.specs.Calls.{Resolve, DropResolve, Word, Poison, Park};
     ghost use Rattle.outside.specs.Faults.{Counts};
 
     /// What a call may make of the outside: the state before it, the call with its answer, and the
@@ -66,11 +67,14 @@ pub trait Outside: Timers {
         ensures { makes self.old Park self.new };
 
     /// The calls of the clock and the sleeps are among these calls.
-    ghost timers_make: { (old : Self) (call : TimersCall) (new : Self) → Self.relates old call new → makes old (OfTimers call) new };
+    ghost timers_make: { (old : Self) (call : TimersCall) (new : Self) → Self.relates old call new →
+        makes old (OfTimers call) new };
 
     /// Whether there are sleeps never changes.
-    ghost sleeps_stay: { (old : Self) (call : OutsideCall) (new : Self) → makes old call new → Self.sleeps new ≡ Self.sleeps old };
+    ghost sleeps_stay: { (old : Self) (call : OutsideCall) (new : Self) → makes old call new →
+        Self.sleeps new ≡ Self.sleeps old };
 
     /// Each failure that is handed out is counted.
-    ghost counts: { (old : Self) (call : OutsideCall) (new : Self) → makes old call new → Counts (faults old) call (faults new) };
+    ghost counts: { (old : Self) (call : OutsideCall) (new : Self) → makes old call new →
+        Counts (faults old) call (faults new) };
 }

@@ -3,7 +3,9 @@ ghost use Rattle.std.specs.Prelude.{◌≡◌};
 ghost use Rattle.serde_json.specs.View.{view, items_view};
 ghost use Rattle.json_forms.specs.Lists.{list_of};
 ghost use Rattle.json_forms.specs.Reading.{Reads};
-ghost use Rattle.outside_scripts.specs.Identities.{failed_identity_at, loaded_at, identity_answer_at, identity_record_at, sources_at};
+ghost use Rattle.outside_scripts.specs.Identities.{failed_identity_at, loaded_at};
+ghost use Rattle.outside_scripts.specs.Identities.{identity_answer_at, identity_record_at};
+ghost use Rattle.outside_scripts.specs.Identities.{sources_at};
 
 use json_forms::forms::read_word;
 use json_forms::{ReadError, read};

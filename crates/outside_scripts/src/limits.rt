@@ -1,7 +1,8 @@
 //! Limits of what a script says of the outside.
 ghost use Rattle.std.specs.Prelude.{◌≡◌};
 ghost use Rattle.std.specs.List.{list_all};
-ghost use Rattle.outside_scripts.specs.Limits.{identity_answer_fits, source_fits, sources_fit, record_fits, records_fit};
+ghost use Rattle.outside_scripts.specs.Limits.{identity_answer_fits, source_fits, sources_fit};
+ghost use Rattle.outside_scripts.specs.Limits.{record_fits, records_fit};
 
 use crate::sizes::{head_fits, text_fits};
 use scripted::{IdentityAnswer, IdentityRecord, RecordAnswer, ResponseRecord};
@@ -22,7 +23,8 @@ fn identity_answer_fits(answer: &IdentityAnswer) -> bool
     }
 }
 
-/// Whether the texts of each source are within their limit: its id, and the text of a load that fails.
+/// Whether the texts of each source are within their limit: its id, and the text of a load that
+/// fails.
 pub fn sources_fit(sources: &[IdentityRecord]) -> bool
     ensures { result ≡ sources_fit sources.now }
 {

@@ -3,7 +3,9 @@ ghost use Rattle.std.specs.Prelude.{◌≡◌};
 ghost use Rattle.serde_json.specs.View.{view, items_view};
 ghost use Rattle.json_forms.specs.Lists.{list_of};
 ghost use Rattle.json_forms.specs.Reading.{Reads};
-ghost use Rattle.outside_scripts.specs.Responses.{frame_at, frames_at, failed_record_at, may_repeat, response_at, answered_record_at, response_record_at, records_at};
+ghost use Rattle.outside_scripts.specs.Responses.{frame_at, frames_at, failed_record_at};
+ghost use Rattle.outside_scripts.specs.Responses.{may_repeat, response_at, answered_record_at};
+ghost use Rattle.outside_scripts.specs.Responses.{response_record_at, records_at};
 
 use json_forms::forms::{read_blob, read_optional_number, read_word};
 use json_forms::{ReadError, read};

@@ -2,7 +2,8 @@
 ghost use Rattle.std.specs.Prelude.{◌≡◌, ◌+◌, ◌<◌, None, length, nat_le, sum_by, IfSome};
 ghost use Rattle.std.specs.List.{list_all};
 ghost use Rattle.http_header.specs.HeaderMap.{pairs};
-ghost use Rattle.outside_scripts.specs.Sizes.{fits_or_none, text_fits, texts_fit, header_size, head_fits};
+ghost use Rattle.outside_scripts.specs.Sizes.{fits_or_none, text_fits, texts_fit, header_size};
+ghost use Rattle.outside_scripts.specs.Sizes.{head_fits};
 
 use http_header::HeaderMap;
 use smithy_types::{Headers, List, Text};

@@ -8,9 +8,13 @@ use crate::ClientRateLimiter;
 /// millionths of a token, and rates in millionths of a token per second.
 #[derive(Clone, Debug, Drop)]
 pub struct ClientRateLimiterBuilder {
+    /// How much a second adds.
     pub token_refill_rate: Option<u64>,
+    /// The most that it holds.
     pub maximum_bucket_capacity: Option<u64>,
+    /// What it holds at first.
     pub current_bucket_capacity: Option<u64>,
+    /// The rate that was measured so far.
     pub tokens_retrieved_per_second: Option<u64>,
 }
 

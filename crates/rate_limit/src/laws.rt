@@ -16,12 +16,15 @@ pub fn capacity_and_fill_stay_in_bounds()
 
 /// A refill at a moment that isn't behind the last one leaves the capacity as it was.
 pub fn a_clock_that_goes_back_refills_nothing()
-    ensures { (p : Pace) (before now : ℕ) → IsSound p → p.refilled_at ≡ Some before → now ≤ before → (refill now p).capacity ≡ p.capacity }
+    ensures { (p : Pace) (before now : ℕ) → IsSound p → p.refilled_at ≡ Some before → now ≤ before →
+        (refill now p).capacity ≡ p.capacity }
 {}
 
 /// A throttle never raises the rate that is in force. The first one, before which none was, sets at
 /// most the measured rate, and half a token per second at least.
 pub fn a_throttle_raises_no_rate()
-    ensures in_force { (p : Pace) (now : ℕ) → IsSound p → p.enabled ≡ true → (after_update p now true).fill ≤ p.fill }
-    ensures first { (p : Pace) (now : ℕ) → (after_update p now true).fill ≤ max (measure now p).measured 500000 }
+    ensures in_force { (p : Pace) (now : ℕ) → IsSound p → p.enabled ≡ true →
+        (after_update p now true).fill ≤ p.fill }
+    ensures first { (p : Pace) (now : ℕ) →
+        (after_update p now true).fill ≤ max (measure now p).measured 500000 }
 {}

@@ -1,5 +1,6 @@
 //! The limiter and its two steps.
-ghost use Rattle.std.specs.Prelude.{◌≡◌, ◌*◌, ◌+◌, ◌-◌, ◌/◌, ◌^◌, ◌<◌, ◌≤◌, ◌↔◌, min, max, true, IsErr, OnErr, IsTrue};
+ghost use Rattle.std.specs.Prelude.{◌≡◌, ◌*◌, ◌+◌, ◌-◌, ◌/◌, ◌^◌, ◌<◌, ◌≤◌, ◌↔◌, min, max, true};
+ghost use Rattle.std.specs.Prelude.{IsErr, OnErr, IsTrue};
 ghost use Rattle.rate_limit.specs.Builder.{unset};
 ghost use Rattle.rate_limit.specs.Curve.{capped};
 ghost use Rattle.rate_limit.specs.Pace.{IsSound, amount_of, pace_from, zero_pace};
@@ -116,7 +117,12 @@ impl ClientRateLimiter {
         capacity: u64,
         measured_rate: u64,
     ) -> ClientRateLimiter
-        ensures { result ≡ record zero_pace { fill = fill_rate; limit = max_capacity; capacity = min capacity max_capacity; measured = measured_rate } }
+        ensures { result ≡ record zero_pace {
+          fill = fill_rate;
+          limit = max_capacity;
+          capacity = min capacity max_capacity;
+          measured = measured_rate;
+        } }
     {
         ClientRateLimiter {
             fill_rate,
@@ -137,7 +143,9 @@ impl ClientRateLimiter {
     pub fn acquire(&mut self, now: u64, reason: RequestReason) -> Result<(), u64>
         ensures limiter { self.new ≡ after_acquire self.old now reason }
         ensures reply { result ≡ reply_to self.old now reason }
-        ensures refused { IsErr result ↔ (IsTrue self.old.enabled × ((refill now self.old).capacity < amount_of reason) × (0 < wait_for (amount_of reason) (refill now self.old))) }
+        ensures refused { IsErr result
+            ↔ (IsTrue self.old.enabled × ((refill now self.old).capacity < amount_of reason)
+            × (0 < wait_for (amount_of reason) (refill now self.old))) }
         ensures kept { OnErr result (self.new ≡ refill now self.old) }
     {
         if !self.is_enabled {
@@ -218,7 +226,8 @@ impl ClientRateLimiter {
     // Notes a throttle at this moment and rate. Requests are limited from then on.
     fn note_throttle(&mut self, now: u64, rate: u64)
         requires { 500000 ≤ self.old.fill }
-        ensures { self.new ≡ record self.old { last_max = rate; throttled_at = now; enabled = true } }
+        ensures { self.new ≡ record self.old
+            { last_max = rate; throttled_at = now; enabled = true } }
     {
         self.last_max_rate = rate;
         self.last_throttle = now;

@@ -13,6 +13,7 @@ use std::hash::{Hash, Hasher};
 /// partitions are.
 #[derive(Debug, Drop)]
 pub struct ClientRateLimiterPartition {
+    /// The retry partition that it is known by.
     pub retry_partition: RetryPartition,
 }
 
@@ -50,7 +51,8 @@ impl Eq for ClientRateLimiterPartition {
 }
 
 impl Hash for ClientRateLimiterPartition {
-    ghost hash_input = { λ p. fed.bool (is_some p.retry_partition.custom) ++ fed.str p.retry_partition.name };
+    ghost hash_input = { λ p. fed.bool (is_some p.retry_partition.custom)
+        ++ fed.str p.retry_partition.name };
 
     ghost respects_eq = { Prim.search (hashing, rules) };
 

@@ -17,8 +17,8 @@ pub struct CacheNeeds {
     pub sleep_impl: bool,
 }
 
-/// The layer of a step: the client's own, and empty ones for the others. The last step fails where a
-/// lazy cache lacks the time source or the sleeps that it needs.
+/// The layer of a step: the client's own, and empty ones for the others. The last step fails where
+/// a lazy cache lacks the time source or the sleeps that it needs.
 pub fn configure(
     stage: ConfigureStage,
     client: &Layer,

@@ -34,7 +34,13 @@ pub fn decide<X: Outside, Q: Quota, C: ClassifyRetry>(
     context: &InterceptorContext,
 ) -> Result<Answer, OutOfMemory>
     ensures { IfOk result (λ a. (calls : _) × Chained X.makes outside.old calls outside.new
-        × IsDecided (record { meaning = Q.meaning; permit_bucket = Q.permit_bucket; permit_amount = Q.permit_amount; limiters = limiters_by Q.Limiter.at Q.Limiter.after_acquire Q.Limiter.reply_to Q.Limiter.after_update })
+        × IsDecided (record {
+          meaning = Q.meaning;
+          permit_bucket = Q.permit_bucket;
+          permit_amount = Q.permit_amount;
+          limiters = limiters_by Q.Limiter.at
+              Q.Limiter.after_acquire Q.Limiter.reply_to Q.Limiter.after_update;
+        })
         (verdict_of C.says context.now classifiers.now RetryAction.NoActionIndicated)
         time_source context.now strategy.old quota.old a strategy.new calls quota.new) }
 {
@@ -78,7 +84,13 @@ fn decide_standard<X: Outside, Q: Quota, C: ClassifyRetry>(
     context: &InterceptorContext,
 ) -> Result<Answer, OutOfMemory>
     ensures { IfOk result (λ a. (calls : _) × Chained X.makes outside.old calls outside.new
-        × StandardDecides (record { meaning = Q.meaning; permit_bucket = Q.permit_bucket; permit_amount = Q.permit_amount; limiters = limiters_by Q.Limiter.at Q.Limiter.after_acquire Q.Limiter.reply_to Q.Limiter.after_update })
+        × StandardDecides (record {
+          meaning = Q.meaning;
+          permit_bucket = Q.permit_bucket;
+          permit_amount = Q.permit_amount;
+          limiters = limiters_by Q.Limiter.at
+              Q.Limiter.after_acquire Q.Limiter.reply_to Q.Limiter.after_update;
+        })
         (verdict_of C.says context.now classifiers.now RetryAction.NoActionIndicated)
         time_source context.now strategy.old quota.old a strategy.new calls quota.new) }
 {
@@ -119,7 +131,8 @@ fn decision_in(decided: Result<Decision, StrategyError>) -> Result<Option<Decisi
 
 // The sums of the bucket in force, where the quota tells them.
 fn sums_in_force<Q: Quota>(quota: &Q, settings: &Settings) -> Option<Sums>
-    requires { IfSome (standing_bucket settings.now) (λ bucket. IsTrue ((Q.meaning quota.now).has bucket)) }
+    requires { IfSome (standing_bucket settings.now)
+        (λ bucket. IsTrue ((Q.meaning quota.now).has bucket)) }
     ensures { result ≡ sums_in (Q.meaning quota.now) (standing_bucket settings.now) }
 {
     match standing_bucket(settings) {

@@ -36,8 +36,20 @@ pub fn hook<X: Outside, Q: Quota, C: ClassifyRetry, I: TakeOffer>(
     view: &HookView,
 ) -> Result<Answer, OutOfMemory>
     ensures { IfOk result (λ a. (calls : _) × Chained X.makes outside.old calls outside.new
-        × Hooks (record { meaning = Q.meaning; permit_bucket = Q.permit_bucket; permit_amount = Q.permit_amount; limiters = limiters_by Q.Limiter.at Q.Limiter.after_acquire Q.Limiter.reply_to Q.Limiter.after_update })
-        (record { names = I.names; hooks = I.hooks; runs = I.runs; with_bucket = I.with_bucket; with_verdict = I.with_verdict })
+        × Hooks (record {
+          meaning = Q.meaning;
+          permit_bucket = Q.permit_bucket;
+          permit_amount = Q.permit_amount;
+          limiters = limiters_by Q.Limiter.at
+              Q.Limiter.after_acquire Q.Limiter.reply_to Q.Limiter.after_update;
+        })
+        (record {
+          names = I.names;
+          hooks = I.hooks;
+          runs = I.runs;
+          with_bucket = I.with_bucket;
+          with_verdict = I.with_verdict;
+        })
         (verdict_of C.says (seen_context view.now) classifiers.now RetryAction.NoActionIndicated)
         hook view.now interceptors.old quota.old a interceptors.new calls quota.new) }
 {
@@ -78,8 +90,21 @@ fn offer<Q: Quota, C: ClassifyRetry, I: TakeOffer>(
     hook: Hook,
     view: &HookView,
 ) -> Result<(), OutOfMemory>
-    ensures { OnOk result (Offers (record { meaning = Q.meaning; permit_bucket = Q.permit_bucket; permit_amount = Q.permit_amount; limiters = limiters_by Q.Limiter.at Q.Limiter.after_acquire Q.Limiter.reply_to Q.Limiter.after_update })
-        (record { names = I.names; hooks = I.hooks; runs = I.runs; with_bucket = I.with_bucket; with_verdict = I.with_verdict })
+    ensures { OnOk result (Offers
+        (record {
+          meaning = Q.meaning;
+          permit_bucket = Q.permit_bucket;
+          permit_amount = Q.permit_amount;
+          limiters = limiters_by Q.Limiter.at Q.Limiter.after_acquire
+              Q.Limiter.reply_to Q.Limiter.after_update;
+        })
+        (record {
+          names = I.names;
+          hooks = I.hooks;
+          runs = I.runs;
+          with_bucket = I.with_bucket;
+          with_verdict = I.with_verdict;
+        })
         (verdict_of C.says (seen_context view.now) classifiers.now RetryAction.NoActionIndicated)
         hook view.now interceptors.old quota.old interceptors.new quota.new) }
 {
@@ -100,9 +125,18 @@ fn offer_bucket<Q: Quota, I: TakeOffer>(
     view: &HookView,
 ) -> Result<(), OutOfMemory>
     ensures { OnOk result ((number : ℕ)
-        × Chained (Calls (limiters_by Q.Limiter.at Q.Limiter.after_acquire Q.Limiter.reply_to Q.Limiter.after_update)) (Q.meaning quota.old)
-        (finding_bucket (standing_partition view.now.settings) (standing_spec view.now.settings) number) (Q.meaning quota.new)
-        × (interceptors.new ≡ offered_bucket (record { names = I.names; hooks = I.hooks; runs = I.runs; with_bucket = I.with_bucket; with_verdict = I.with_verdict })
+        × Chained (Calls (limiters_by Q.Limiter.at Q.Limiter.after_acquire Q.Limiter.reply_to
+        Q.Limiter.after_update)) (Q.meaning quota.old)
+        (finding_bucket (standing_partition view.now.settings) (standing_spec view.now.settings)
+        number) (Q.meaning quota.new)
+        × (interceptors.new ≡ offered_bucket
+        (record {
+          names = I.names;
+          hooks = I.hooks;
+          runs = I.runs;
+          with_bucket = I.with_bucket;
+          with_verdict = I.with_verdict;
+        })
         (standing_partition view.now.settings) number interceptors.old)) }
 {
     let Some(partition) = standing_partition(&view.settings) else {
@@ -119,7 +153,8 @@ fn verdict_on<C: ClassifyRetry>(
     classifiers: &[C],
     view: &HookView,
 ) -> Result<RetryAction, OutOfMemory>
-    ensures { IfOk result (λ v. v ≡ verdict_of C.says (seen_context view.now) classifiers.now RetryAction.NoActionIndicated) }
+    ensures { IfOk result (λ v. v ≡
+        verdict_of C.says (seen_context view.now) classifiers.now RetryAction.NoActionIndicated) }
 {
     let context = context_of(view.clone()?);
     Ok(run_classifiers(classifiers, &context))

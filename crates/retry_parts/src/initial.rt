@@ -24,7 +24,13 @@ pub fn initial<X: Outside, Q: Quota>(
     settings: &Settings,
 ) -> Result<Answer, OutOfMemory>
     ensures { IfOk result (λ a. (calls : _) × Chained X.makes outside.old calls outside.new
-        × Begun (record { meaning = Q.meaning; permit_bucket = Q.permit_bucket; permit_amount = Q.permit_amount; limiters = limiters_by Q.Limiter.at Q.Limiter.after_acquire Q.Limiter.reply_to Q.Limiter.after_update })
+        × Begun (record {
+          meaning = Q.meaning;
+          permit_bucket = Q.permit_bucket;
+          permit_amount = Q.permit_amount;
+          limiters = limiters_by Q.Limiter.at
+              Q.Limiter.after_acquire Q.Limiter.reply_to Q.Limiter.after_update;
+        })
         time_source settings.now strategy.old quota.old a strategy.new calls quota.new) }
 {
     match strategy {

@@ -18,7 +18,14 @@ pub enum RetryStrategy<P: Drop> {
 impl<P: Drop> RetryStrategy<P> {
     /// Gives a held permit back to its bucket. The strategy may be used on, and holds none.
     pub fn close<Q: Quota<Permit = P>>(&mut self, quota: &mut Q)
-        ensures { Closes (record { meaning = Q.meaning; permit_bucket = Q.permit_bucket; permit_amount = Q.permit_amount; limiters = limiters_by Q.Limiter.at Q.Limiter.after_acquire Q.Limiter.reply_to Q.Limiter.after_update }) self.old quota.old self.new quota.new }
+        ensures { Closes (record {
+          meaning = Q.meaning;
+          permit_bucket = Q.permit_bucket;
+          permit_amount = Q.permit_amount;
+          limiters = limiters_by Q.Limiter.at
+              Q.Limiter.after_acquire Q.Limiter.reply_to Q.Limiter.after_update;
+        }) self.old quota.old
+            self.new quota.new }
     {
         match self {
             RetryStrategy::Never(_) => {}

@@ -1,6 +1,7 @@
 //! Classifiers, and what a list of them says together.
 ghost use Rattle.std.specs.Prelude.{◌≡◌};
-ghost use Rattle.retry_policy.specs.Classifying.{modeled_says, retry_for, status_says, transient_says};
+ghost use Rattle.retry_policy.specs.Classifying.{modeled_says, retry_for, status_says};
+ghost use Rattle.retry_policy.specs.Classifying.{transient_says};
 ghost use Rattle.retry_policy.specs.Verdict.{is_forbidden, replaced, verdict_of};
 
 use crate::{HttpStatusCodeClassifier, ModeledAsRetryableClassifier, TransientErrorClassifier};
@@ -16,11 +17,13 @@ pub trait ClassifyRetry: Drop {
     /// The text of the name.
     ghost called: { Self → List ℕ };
 
+    /// Its priority.
     ghost ranked: { Self → ℤ };
 
     /// What the classifier says of a context, where the others before it came to a verdict.
     ghost says: { Self → InterceptorContext → RetryAction → RetryAction };
 
+    /// What it is called.
     fn name(&self) -> &str
         ensures { result.now ≡ called self.now };
 
@@ -36,22 +39,47 @@ pub trait ClassifyRetry: Drop {
 /// One of the crate's own classifiers, or one that the caller brings.
 #[derive(Drop)]
 pub enum Classifier<E> {
+    /// By the response's status.
     HttpStatusCode(HttpStatusCodeClassifier),
+    /// By what the service's error says of itself.
     ModeledAsRetryable(ModeledAsRetryableClassifier<E>),
+    /// By what failed on the way.
     TransientError(TransientErrorClassifier<E>),
+    /// One that the caller brings.
     Boxed(Box<dyn ClassifyRetry>),
 }
 
 impl<E: ProvideErrorKind> ClassifyRetry for Classifier<E> {
     ghost use Rattle.std.specs.Prelude.{codes, pos};
     ghost use Rattle.retry_policy.specs.Classifying.{modeled_says, status_says, transient_says};
-    ghost use Rattle.retry_policy.specs.declared.classify.Classifier.TheVariants.{HttpStatusCode, ModeledAsRetryable, TransientError, Boxed};
+    ghost use Rattle.retry_policy.specs.declared.classify.Classifier.TheVariants.{HttpStatusCode};
+    ghost use Rattle.retry_policy.specs.declared.classify.Classifier.TheVariants.{ModeledAsRetryable};
+    ghost use Rattle.retry_policy.specs.declared.classify.Classifier.TheVariants.{TransientError};
+    ghost use Rattle.retry_policy.specs.declared.classify.Classifier.TheVariants.{Boxed};
 
-    ghost called = { elim [ HttpStatusCode x ↦ codes "HTTP Status Code" | ModeledAsRetryable x ↦ codes "Errors Modeled As Retryable" | TransientError x ↦ codes "Retryable Smithy Errors" | Boxed x ↦ (ClassifyRetry-box x).called x.value ] };
+    ghost called = { elim [
+      | HttpStatusCode x ↦ codes "HTTP Status Code"
+      | ModeledAsRetryable x ↦
+          codes "Errors Modeled As Retryable"
+      | TransientError x ↦ codes "Retryable Smithy Errors"
+      | Boxed x ↦ (ClassifyRetry-box x).called x.value
+    ] };
 
-    ghost ranked = { elim [ HttpStatusCode x ↦ pos 0 | ModeledAsRetryable x ↦ pos 10 | TransientError x ↦ pos 20 | Boxed x ↦ (ClassifyRetry-box x).ranked x.value ] };
+    ghost ranked = { elim [
+      | HttpStatusCode x ↦ pos 0
+      | ModeledAsRetryable x ↦ pos 10
+      | TransientError x ↦ pos 20
+      | Boxed x ↦ (ClassifyRetry-box x).ranked x.value
+    ] };
 
-    ghost says = { elim [ HttpStatusCode x ↦ (λ c v. status_says x.codes c) | ModeledAsRetryable x ↦ (λ c v. modeled_says E.kind_in c) | TransientError x ↦ (λ c v. transient_says c) | Boxed x ↦ (ClassifyRetry-box x).says x.value ] };
+    ghost says = { elim [
+      | HttpStatusCode x ↦ (λ c v. status_says x.codes c)
+      | ModeledAsRetryable x ↦
+          (λ c v. modeled_says E.kind_in c)
+      | TransientError x ↦ (λ c v. transient_says c)
+      | Boxed x ↦
+          (ClassifyRetry-box x).says x.value
+    ] };
 
     fn name(&self) -> &str {
         match self {
@@ -82,13 +110,14 @@ impl<E: ProvideErrorKind> ClassifyRetry for Classifier<E> {
 }
 
 /// Asks each classifier in the order of the list, which is that of their priorities. An answer that
-/// indicates nothing keeps the verdict so far, one that forbids a retry ends the walk, and any other
-/// is the new verdict. It takes no memory.
+/// indicates nothing keeps the verdict so far, one that forbids a retry ends the walk, and any
+/// other is the new verdict. It takes no memory.
 pub fn run_classifiers_on_ctx<E: ProvideErrorKind>(
     classifiers: &[Classifier<E>],
     ctx: &InterceptorContext,
 ) -> RetryAction
-    ensures { result ≡ verdict_of ⟦<Classifier<E> as ClassifyRetry>⟧.says ctx.now classifiers.now RetryAction.NoActionIndicated }
+    ensures { result ≡ verdict_of ⟦<Classifier<E> as ClassifyRetry>⟧.says ctx.now classifiers.now
+        RetryAction.NoActionIndicated }
 {
     run_each(classifiers, ctx)
 }

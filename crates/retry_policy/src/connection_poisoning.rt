@@ -44,13 +44,15 @@ impl ConnectionPoisoningInterceptor {
 
 impl Intercept for ConnectionPoisoningInterceptor {
     ghost use Rattle.std.specs.Prelude.{◌≡◌, ◌||◌, codes};
-    ghost use Rattle.retry_policy.specs.Interceptors.{connection_answer, is_after_deserialization, is_before_transmit};
+    ghost use Rattle.retry_policy.specs.Interceptors.{connection_answer, is_after_deserialization};
+    ghost use Rattle.retry_policy.specs.Interceptors.{is_before_transmit};
 
     ghost names = { λ _. codes "ConnectionPoisoningInterceptor" };
 
     ghost hooks = { λ _ hook. is_before_transmit hook || is_after_deserialization hook };
 
-    ghost runs = { λ old hook view answer new. (new ≡ old) × (answer ≡ connection_answer hook old.verdict view) };
+    ghost runs = { λ old hook view answer new. (new ≡ old)
+        × (answer ≡ connection_answer hook old.verdict view) };
 
     fn name(&self) -> &str {
         "ConnectionPoisoningInterceptor"

@@ -7,7 +7,9 @@ use thiserror::Error;
 /// Whether an operation is begun.
 #[derive(Clone, Copy, Debug, PartialEq, Eq)]
 pub enum Initial {
+    /// It is begun at once.
     Go,
+    /// It isn't begun.
     No,
     /// After so many nanoseconds.
     Delay(u64),
@@ -18,6 +20,7 @@ pub enum Initial {
 pub struct Decision {
     /// Never `NoAfter`: `long_poll` says that.
     pub choice: Choice,
+    /// Why.
     pub reason: Reason,
     /// For how many nanoseconds an operation that polls for long pauses, though there is no
     /// further attempt.
@@ -32,6 +35,7 @@ pub enum StrategyError {
     #[error("a setting that the retry strategy needs isn't there")]
     MissingSetting,
     #[error("out of memory")]
+    /// An allocation was refused.
     OutOfMemory,
 }
 

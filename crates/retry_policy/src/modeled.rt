@@ -15,10 +15,12 @@ pub struct ModeledAsRetryableClassifier<E> {
 }
 
 impl<E: ProvideErrorKind> ModeledAsRetryableClassifier<E> {
+    /// The classifier. It takes no memory.
     pub fn new() -> ModeledAsRetryableClassifier<E> {
         ModeledAsRetryableClassifier { error: PhantomData }
     }
 
+    /// What it is called.
     pub fn name(&self) -> &'static str
         ensures { result.now ≡ codes "Errors Modeled As Retryable" }
     {

@@ -9,16 +9,19 @@ use smithy_types::{Choice, Reason};
 pub struct NeverRetryStrategy {}
 
 impl NeverRetryStrategy {
+    /// The strategy. It takes no memory.
     pub fn new() -> NeverRetryStrategy {
         NeverRetryStrategy {}
     }
 
+    /// An operation is begun at once.
     pub fn should_attempt_initial_request(&self) -> Initial
         ensures { result ≡ Initial.Go }
     {
         Initial::Go
     }
 
+    /// There is no further attempt, since no retry is indicated.
     pub fn should_attempt_retry(&self) -> Decision
         ensures choice { result.choice ≡ Choice.No }
         ensures reason { result.reason ≡ Reason.NotIndicated }

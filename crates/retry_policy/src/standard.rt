@@ -75,9 +75,12 @@ impl<P: Drop> StandardRetryStrategy<P> {
         quota: &mut Q,
         now: Option<u64>,
     ) -> Result<Initial, StrategyError>
-        ensures begins { IfOk result (λ first. Begins (limiters_by Q.Limiter.at Q.Limiter.after_acquire Q.Limiter.reply_to Q.Limiter.after_update)
+        ensures begins { IfOk result
+            (λ first. Begins (limiters_by Q.Limiter.at Q.Limiter.after_acquire Q.Limiter.reply_to
+            Q.Limiter.after_update)
             (Q.meaning quota.old) settings.now now first (Q.meaning quota.new)) }
-        ensures missing { (result ≡ Err StrategyError.MissingSetting) ↔ IsTrue (lacks_setting settings.now now (Q.meaning quota.old).has) }
+        ensures missing { (result ≡ Err StrategyError.MissingSetting)
+            ↔ IsTrue (lacks_setting settings.now now (Q.meaning quota.old).has) }
         ensures kept { OnErr result (IsKept (Q.meaning quota.old) (Q.meaning quota.new)) }
         ensures slot { self.new ≡ self.old }
     {
@@ -102,9 +105,14 @@ impl<P: Drop> StandardRetryStrategy<P> {
         now: Option<u64>,
         word: u64,
     ) -> Result<Decision, StrategyError>
-        ensures decides { IfOk result (λ d. Decides (limiters_by Q.Limiter.at Q.Limiter.after_acquire Q.Limiter.reply_to Q.Limiter.after_update)
-            (Q.meaning quota.old) settings.now ctx.now verdict.now now word (permit_of Q.permit_bucket Q.permit_amount self.old.held) d (permit_of Q.permit_bucket Q.permit_amount self.new.held) (Q.meaning quota.new)) }
-        ensures missing { (result ≡ Err StrategyError.MissingSetting) ↔ IsTrue (lacks_setting settings.now now (Q.meaning quota.old).has) }
+        ensures decides { IfOk result
+            (λ d. Decides (limiters_by Q.Limiter.at Q.Limiter.after_acquire Q.Limiter.reply_to
+            Q.Limiter.after_update)
+            (Q.meaning quota.old) settings.now ctx.now verdict.now now word
+            (permit_of Q.permit_bucket Q.permit_amount self.old.held) d
+            (permit_of Q.permit_bucket Q.permit_amount self.new.held) (Q.meaning quota.new)) }
+        ensures missing { (result ≡ Err StrategyError.MissingSetting)
+            ↔ IsTrue (lacks_setting settings.now now (Q.meaning quota.old).has) }
         ensures kept { OnErr result (IsKept (Q.meaning quota.old) (Q.meaning quota.new)) }
         ensures slot { OnErr result (self.new ≡ self.old) }
     {
@@ -130,8 +138,11 @@ impl<P: Drop> StandardRetryStrategy<P> {
         quota: &mut Q,
     ) -> Decision
         requires { (Q.meaning quota.old).has attempt.bucket ≡ true }
-        ensures { Comes (limiters_by Q.Limiter.at Q.Limiter.after_acquire Q.Limiter.reply_to Q.Limiter.after_update) (Q.meaning quota.old)
-            (decision (case_of attempt.retry attempt.bucket attempt.failed attempt.number verdict attempt.now attempt.word attempt.paced (Q.meaning quota.old)) (permit_of Q.permit_bucket Q.permit_amount self.old.held))
+        ensures { Comes (limiters_by Q.Limiter.at Q.Limiter.after_acquire Q.Limiter.reply_to
+            Q.Limiter.after_update) (Q.meaning quota.old)
+            (decision (case_of attempt.retry attempt.bucket attempt.failed attempt.number verdict
+            attempt.now attempt.word attempt.paced (Q.meaning quota.old))
+            (permit_of Q.permit_bucket Q.permit_amount self.old.held))
             result (permit_of Q.permit_bucket Q.permit_amount self.new.held) (Q.meaning quota.new) }
     {
         tell_limiter(quota, attempt.paced, verdict);
@@ -147,8 +158,11 @@ impl<P: Drop> StandardRetryStrategy<P> {
         quota: &mut Q,
     ) -> Decision
         requires { (Q.meaning quota.old).has attempt.bucket ≡ true }
-        ensures { Comes (limiters_by Q.Limiter.at Q.Limiter.after_acquire Q.Limiter.reply_to Q.Limiter.after_update) (Q.meaning quota.old)
-            (deciding (case_of attempt.retry attempt.bucket attempt.failed attempt.number verdict attempt.now attempt.word attempt.paced (Q.meaning quota.old)) verdict (permit_of Q.permit_bucket Q.permit_amount self.old.held))
+        ensures { Comes (limiters_by Q.Limiter.at Q.Limiter.after_acquire Q.Limiter.reply_to
+            Q.Limiter.after_update) (Q.meaning quota.old)
+            (deciding (case_of attempt.retry attempt.bucket attempt.failed attempt.number verdict
+            attempt.now attempt.word attempt.paced (Q.meaning quota.old)) verdict
+            (permit_of Q.permit_bucket Q.permit_amount self.old.held))
             result (permit_of Q.permit_bucket Q.permit_amount self.new.held) (Q.meaning quota.new) }
     {
         match verdict {
@@ -173,8 +187,12 @@ impl<P: Drop> StandardRetryStrategy<P> {
         quota: &mut Q,
     ) -> Decision
         requires { (Q.meaning quota.old).has attempt.bucket ≡ true }
-        ensures { Comes (limiters_by Q.Limiter.at Q.Limiter.after_acquire Q.Limiter.reply_to Q.Limiter.after_update) (Q.meaning quota.old)
-            (retrying (case_of attempt.retry attempt.bucket attempt.failed attempt.number (RetryAction.RetryIndicated kind retry_after) attempt.now attempt.word attempt.paced (Q.meaning quota.old)) kind retry_after (permit_of Q.permit_bucket Q.permit_amount self.old.held))
+        ensures { Comes (limiters_by Q.Limiter.at Q.Limiter.after_acquire Q.Limiter.reply_to
+            Q.Limiter.after_update) (Q.meaning quota.old)
+            (retrying (case_of attempt.retry attempt.bucket attempt.failed attempt.number
+            (RetryAction.RetryIndicated kind retry_after) attempt.now attempt.word attempt.paced
+            (Q.meaning quota.old)) kind retry_after
+            (permit_of Q.permit_bucket Q.permit_amount self.old.held))
             result (permit_of Q.permit_bucket Q.permit_amount self.new.held) (Q.meaning quota.new) }
     {
         let reason = reason_for(kind);
@@ -194,8 +212,13 @@ impl<P: Drop> StandardRetryStrategy<P> {
         quota: &mut Q,
     ) -> Decision
         requires { (Q.meaning quota.old).has attempt.bucket ≡ true }
-        ensures { (retry_after : Option ℕ) → Comes (limiters_by Q.Limiter.at Q.Limiter.after_acquire Q.Limiter.reply_to Q.Limiter.after_update) (Q.meaning quota.old)
-            (λ _. paying (case_of attempt.retry attempt.bucket attempt.failed attempt.number (RetryAction.RetryIndicated kind retry_after) attempt.now attempt.word attempt.paced (Q.meaning quota.old)) kind wait (permit_of Q.permit_bucket Q.permit_amount self.old.held))
+        ensures { (retry_after : Option ℕ) →
+            Comes (limiters_by Q.Limiter.at Q.Limiter.after_acquire Q.Limiter.reply_to
+            Q.Limiter.after_update) (Q.meaning quota.old)
+            (λ _. paying (case_of attempt.retry attempt.bucket attempt.failed attempt.number
+            (RetryAction.RetryIndicated kind retry_after) attempt.now attempt.word attempt.paced
+            (Q.meaning quota.old)) kind wait
+            (permit_of Q.permit_bucket Q.permit_amount self.old.held))
             result (permit_of Q.permit_bucket Q.permit_amount self.new.held) (Q.meaning quota.new) }
     {
         let cost = quota.cost(attempt.bucket, kind);
@@ -218,9 +241,13 @@ impl<P: Drop> StandardRetryStrategy<P> {
 
     // Holds this permit in place of the former one, which is given up.
     fn keep<Q: Quota<Permit = P>>(&mut self, quota: &mut Q, permit: P)
-        ensures held { permit_of Q.permit_bucket Q.permit_amount self.new.held ≡ Some (record { bucket = Q.permit_bucket permit; amount = Q.permit_amount permit }) }
-        ensures made { Chained (Calls (limiters_by Q.Limiter.at Q.Limiter.after_acquire Q.Limiter.reply_to Q.Limiter.after_update)) (Q.meaning quota.old)
-            (forgetting (permit_of Q.permit_bucket Q.permit_amount self.old.held)) (Q.meaning quota.new) }
+        ensures held { permit_of Q.permit_bucket Q.permit_amount self.new.held ≡
+            Some (record { bucket = Q.permit_bucket permit; amount = Q.permit_amount permit }) }
+        ensures made { Chained (Calls
+            (limiters_by Q.Limiter.at Q.Limiter.after_acquire Q.Limiter.reply_to
+            Q.Limiter.after_update)) (Q.meaning quota.old)
+            (forgetting (permit_of Q.permit_bucket Q.permit_amount self.old.held))
+            (Q.meaning quota.new) }
     {
         if let Some(former) = self.held.take() {
             quota.forget(former);
@@ -231,9 +258,13 @@ impl<P: Drop> StandardRetryStrategy<P> {
     // What a success does; a failure does nothing.
     fn settle<Q: Quota<Permit = P>>(&mut self, quota: &mut Q, failed: bool, bucket: u32)
         requires { (Q.meaning quota.old).has bucket ≡ true }
-        ensures held { permit_of Q.permit_bucket Q.permit_amount self.new.held ≡ held_on failed (permit_of Q.permit_bucket Q.permit_amount self.old.held) }
-        ensures made { Chained (Calls (limiters_by Q.Limiter.at Q.Limiter.after_acquire Q.Limiter.reply_to Q.Limiter.after_update)) (Q.meaning quota.old)
-            (settled failed bucket ((Q.meaning quota.old).reward bucket) (permit_of Q.permit_bucket Q.permit_amount self.old.held)) (Q.meaning quota.new) }
+        ensures held { permit_of Q.permit_bucket Q.permit_amount self.new.held ≡
+            held_on failed (permit_of Q.permit_bucket Q.permit_amount self.old.held) }
+        ensures made { Chained (Calls
+            (limiters_by Q.Limiter.at Q.Limiter.after_acquire Q.Limiter.reply_to
+            Q.Limiter.after_update)) (Q.meaning quota.old)
+            (settled failed bucket ((Q.meaning quota.old).reward bucket)
+            (permit_of Q.permit_bucket Q.permit_amount self.old.held)) (Q.meaning quota.new) }
     {
         if failed {
             return;
@@ -254,8 +285,10 @@ impl<P: Drop> StandardRetryStrategy<P> {
 
     /// Gives the held permit back to its bucket.
     pub fn close<Q: Quota<Permit = P>>(self, quota: &mut Q)
-        ensures { Chained (Calls (limiters_by Q.Limiter.at Q.Limiter.after_acquire Q.Limiter.reply_to Q.Limiter.after_update)) (Q.meaning quota.old)
-            (releasing (permit_of Q.permit_bucket Q.permit_amount self.held)) (Q.meaning quota.new) }
+        ensures { Chained (Calls (limiters_by Q.Limiter.at Q.Limiter.after_acquire
+            Q.Limiter.reply_to Q.Limiter.after_update)) (Q.meaning quota.old)
+            (releasing (permit_of Q.permit_bucket Q.permit_amount self.held))
+            (Q.meaning quota.new) }
     {
         if let Some(permit) = self.held {
             quota.release(permit);
@@ -331,7 +364,9 @@ fn throttles(verdict: RetryAction) -> bool
 
 /// Tells the limiter of the response, where one is used.
 fn tell_limiter<Q: Quota>(quota: &mut Q, paced: Option<Paced>, verdict: RetryAction)
-    ensures { Chained (Calls (limiters_by Q.Limiter.at Q.Limiter.after_acquire Q.Limiter.reply_to Q.Limiter.after_update)) (Q.meaning quota.old) (telling paced verdict) (Q.meaning quota.new) }
+    ensures { Chained (Calls (limiters_by Q.Limiter.at Q.Limiter.after_acquire Q.Limiter.reply_to
+        Q.Limiter.after_update)) (Q.meaning quota.old) (telling paced verdict)
+        (Q.meaning quota.new) }
 {
     if let Some(paced) = paced {
         quota.limiter_update(paced.limiter, paced.now, throttles(verdict));
@@ -345,7 +380,9 @@ fn ask_limiter<Q: Quota>(
     paced: Option<Paced>,
     reason: RequestReason,
 ) -> Option<u64>
-    ensures { Asks (limiters_by Q.Limiter.at Q.Limiter.after_acquire Q.Limiter.reply_to Q.Limiter.after_update) (Q.meaning quota.old) skipped paced reason result (Q.meaning quota.new) }
+    ensures { Asks (limiters_by Q.Limiter.at Q.Limiter.after_acquire Q.Limiter.reply_to
+        Q.Limiter.after_update) (Q.meaning quota.old) skipped paced reason result
+        (Q.meaning quota.new) }
 {
     if skipped {
         return None;

@@ -1,5 +1,6 @@
 //! What a strategy reads of the settings that stand.
-ghost use Rattle.std.specs.Prelude.{◌≡◌, true, false, IfOk, IfErr, IsErr, OnErr, ◌↔◌, IsTrue, is_some, option_copied};
+ghost use Rattle.std.specs.Prelude.{◌≡◌, true, false, IfOk, IfErr, IsErr, OnErr, ◌↔◌, IsTrue};
+ghost use Rattle.std.specs.Prelude.{is_some, option_copied};
 ghost use Rattle.retry_quota.specs.Calls.{limiters_by};
 ghost use Rattle.retry_quota.specs.Meaning.{IsKept};
 ghost use Rattle.retry_policy.specs.Decision.{FindsLimiter};
@@ -30,7 +31,9 @@ pub(crate) struct Terms {
 /// A limiter that is asked and told, by its number, and the moment in nanoseconds.
 #[derive(Clone, Copy)]
 pub struct Paced {
+    /// The limiter's number.
     pub limiter: u32,
+    /// The moment in nanoseconds.
     pub now: u64,
 }
 
@@ -86,8 +89,10 @@ pub(crate) fn standing_terms<Q: Quota>(
     ensures retry { IfOk result (λ t. standing_retry settings.now ≡ Some t.retry) }
     ensures bucket { IfOk result (λ t. standing_bucket settings.now ≡ Some t.bucket) }
     ensures there { IfOk result (λ t. (Q.meaning quota.now).has t.bucket ≡ true) }
-    ensures partition { IfOk result (λ t. lacks_partition t.retry now (standing_partition settings.now) ≡ false) }
-    ensures missing { IsErr result ↔ IsTrue (lacks_setting settings.now now (Q.meaning quota.now).has) }
+    ensures partition { IfOk result
+        (λ t. lacks_partition t.retry now (standing_partition settings.now) ≡ false) }
+    ensures missing { IsErr result
+        ↔ IsTrue (lacks_setting settings.now now (Q.meaning quota.now).has) }
     ensures error { IfErr result (λ e. e ≡ StrategyError.MissingSetting) }
 {
     let Some(retry) = standing_retry(settings) else {
@@ -111,8 +116,10 @@ pub(crate) fn find_limiter<Q: Quota>(
     now: Option<u64>,
 ) -> Result<Option<Paced>, StrategyError>
     requires { lacks_partition retry now (standing_partition settings.now) ≡ false }
-    ensures found { IfOk result (λ paced. FindsLimiter (limiters_by Q.Limiter.at Q.Limiter.after_acquire Q.Limiter.reply_to Q.Limiter.after_update)
-        (Q.meaning quota.old) (uses_limiter retry now) now (standing_partition settings.now) paced (Q.meaning quota.new)) }
+    ensures found { IfOk result (λ paced. FindsLimiter
+        (limiters_by Q.Limiter.at Q.Limiter.after_acquire Q.Limiter.reply_to Q.Limiter.after_update)
+        (Q.meaning quota.old) (uses_limiter retry now) now (standing_partition settings.now) paced
+        (Q.meaning quota.new)) }
     ensures kept { OnErr result (IsKept (Q.meaning quota.old) (Q.meaning quota.new)) }
     ensures error { IfErr result (λ e. e ≡ StrategyError.OutOfMemory) }
 {

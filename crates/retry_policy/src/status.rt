@@ -11,6 +11,7 @@ use std::alloc::Global;
 /// A response with one of these statuses is a transient failure.
 #[derive(Drop)]
 pub struct HttpStatusCodeClassifier {
+    /// The statuses that count as transient.
     pub codes: List<u16>,
 }
 
@@ -34,6 +35,7 @@ impl HttpStatusCodeClassifier {
         HttpStatusCodeClassifier { codes }
     }
 
+    /// What it is called.
     pub fn name(&self) -> &'static str
         ensures { result.now ≡ codes "HTTP Status Code" }
     {

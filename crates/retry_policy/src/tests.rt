@@ -1,3 +1,4 @@
+//! The strategy without retries, and the two interceptors.
 use super::*;
 use smithy_base::Intercept;
 use smithy_context::{HookView, Layer, Setting, Settings};

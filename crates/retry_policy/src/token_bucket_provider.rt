@@ -37,7 +37,8 @@ impl Intercept for TokenBucketProvider {
 
     ghost hooks = { λ _ hook. is_before_retry_loop hook };
 
-    ghost runs = { λ old hook view answer new. (new ≡ old) × (answer ≡ bucket_answer (is_before_retry_loop hook) old.offered) };
+    ghost runs = { λ old hook view answer new. (new ≡ old)
+        × (answer ≡ bucket_answer (is_before_retry_loop hook) old.offered) };
 
     fn name(&self) -> &str {
         "TokenBucketProvider"

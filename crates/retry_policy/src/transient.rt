@@ -1,6 +1,7 @@
 //! The classifier of failures that have nothing to do with the operation.
 ghost use Rattle.std.specs.Prelude.{◌≡◌, Some, codes, option_copied, pos};
-ghost use Rattle.retry_policy.specs.Classifying.{connector_error, failure_kind, transient_kind, transient_says};
+ghost use Rattle.retry_policy.specs.Classifying.{connector_error, failure_kind, transient_kind};
+ghost use Rattle.retry_policy.specs.Classifying.{transient_says};
 
 use crate::classify::retry_for;
 use smithy_context::InterceptorContext;
@@ -14,10 +15,12 @@ pub struct TransientErrorClassifier<E> {
 }
 
 impl<E: ProvideErrorKind> TransientErrorClassifier<E> {
+    /// The classifier. It takes no memory.
     pub fn new() -> TransientErrorClassifier<E> {
         TransientErrorClassifier { error: PhantomData }
     }
 
+    /// What it is called.
     pub fn name(&self) -> &'static str
         ensures { result.now ≡ codes "Retryable Smithy Errors" }
     {

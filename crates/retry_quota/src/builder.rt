@@ -1,3 +1,4 @@
+//! The builder of a token bucket.
 ghost use Rattle.std.specs.Prelude.{◌≡◌, min, IsOkAnd};
 ghost use Rattle.retry_quota.specs.Book.{plain_book};
 
@@ -25,7 +26,9 @@ impl Model for TokenBucketBuilder {
 
     ghost Value = { Book };
 
-    ghost view = { λ b. opening (unwrap_or b.capacity 500) (unwrap_or b.retry_cost 5) (unwrap_or b.throttling_retry_cost 5) (unwrap_or b.timeout_retry_cost 10) (unwrap_or b.success_reward 0) (unwrap_or b.refill_rate 0) };
+    ghost view = { λ b. opening (unwrap_or b.capacity 500) (unwrap_or b.retry_cost 5)
+        (unwrap_or b.throttling_retry_cost 5) (unwrap_or b.timeout_retry_cost 10)
+        (unwrap_or b.success_reward 0) (unwrap_or b.refill_rate 0) };
 
     ghost invariant = { λ b. unwrap_or b.capacity 500 ≤ MAXIMUM_CAPACITY };
 }
@@ -47,7 +50,8 @@ impl TokenBucketBuilder {
 
     /// Sets the capacity. One above the maximum counts as the maximum.
     pub fn capacity(mut self, capacity: u64) -> TokenBucketBuilder
-        ensures { let most = min capacity MAXIMUM_CAPACITY in result ≡ record self { capacity = most; available = most } }
+        ensures { let most = min capacity MAXIMUM_CAPACITY in result ≡
+            record self { capacity = most; available = most } }
     {
         self.capacity = Some(capacity.min(MAXIMUM_CAPACITY));
         self

@@ -1,3 +1,4 @@
+//! Why a bucket can't be made.
 use crate::MAXIMUM_CAPACITY;
 use thiserror::Error;
 

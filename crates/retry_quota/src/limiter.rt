@@ -1,3 +1,4 @@
+//! What limits a client's rate of sending.
 ghost use Rattle.std.specs.Prelude.{◌≡◌, ℕ, Bool, Result};
 
 /// What a request asks a limiter for.

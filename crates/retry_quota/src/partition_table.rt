@@ -1,3 +1,4 @@
+//! Values by their retry partitions.
 ghost use Rattle.std.specs.Prelude.{◌≡◌, ◌++◌, ◌∷◌, [], None, IfOk, IfSome, OnOk, OnErr};
 ghost use Rattle.std.specs.Map.{lookup};
 
@@ -7,7 +8,8 @@ use std::alloc::Global;
 use std::hash::Hash;
 use std::marker::Model;
 
-/// Values by their partition keys, in the order in which the keys came. A key keeps its first value.
+/// Values by their partition keys, in the order in which the keys came. A key keeps its first
+/// value.
 #[derive(Drop)]
 pub struct PartitionTable<K: Eq + Hash, V> {
     map: Option<IndexMap<K, V>>,
@@ -60,8 +62,10 @@ impl<K: Eq + Hash, V> PartitionTable<K, V> {
         V: Clone + Drop,
         requires clones { (v copy : V) → V.is_clone v copy → copy ≡ v }
         requires init { lookup (K.eq key) self.old ≡ None → F.pre init }
-        ensures known { IfSome (lookup (K.eq key) self.old) (λ value. IfOk result (λ v. (v ≡ value) × (self.new ≡ self.old))) }
-        ensures added { IfOk result (λ v. lookup (K.eq key) self.old ≡ None → F.post init v × (self.new ≡ self.old ++ (key, v) ∷ [])) }
+        ensures known { IfSome (lookup (K.eq key) self.old)
+            (λ value. IfOk result (λ v. (v ≡ value) × (self.new ≡ self.old))) }
+        ensures added { IfOk result (λ v. lookup (K.eq key) self.old ≡ None → F.post init v
+            × (self.new ≡ self.old ++ (key, v) ∷ [])) }
         ensures err { OnErr result (self.new ≡ self.old) }
     {
         if let Some(value) = self.get(alloc, &key)? {
@@ -76,8 +80,10 @@ impl<K: Eq + Hash, V> PartitionTable<K, V> {
         K: Drop,
         V: Clone + Default + Drop,
         requires { (v copy : V) → V.is_clone v copy → copy ≡ v }
-        ensures known { IfSome (lookup (K.eq key) self.old) (λ value. IfOk result (λ v. (v ≡ value) × (self.new ≡ self.old))) }
-        ensures added { IfOk result (λ v. lookup (K.eq key) self.old ≡ None → V.is_default v × (self.new ≡ self.old ++ (key, v) ∷ [])) }
+        ensures known { IfSome (lookup (K.eq key) self.old)
+            (λ value. IfOk result (λ v. (v ≡ value) × (self.new ≡ self.old))) }
+        ensures added { IfOk result (λ v. lookup (K.eq key) self.old ≡ None → V.is_default v
+            × (self.new ≡ self.old ++ (key, v) ∷ [])) }
         ensures err { OnErr result (self.new ≡ self.old) }
     {
         if let Some(known) = self.get(alloc, &key)? {

@@ -1,3 +1,5 @@
+//! What a retry has paid.
+
 /// Tokens that a retry has paid. It is spent by a release or a forget. One that is dropped unspent
 /// stays held in its bucket.
 #[derive(Debug, Drop)]

@@ -1,4 +1,6 @@
-ghost use Rattle.std.specs.Prelude.{◌≡◌, ◌++◌, ◌∷◌, [], length, IfOk, IsOkAnd, OnOk, OnErr, None, option_copied};
+//! Buckets and limiters of one thread, by their numbers and their partitions.
+ghost use Rattle.std.specs.Prelude.{◌≡◌, ◌++◌, ◌∷◌, [], length, IfOk, IsOkAnd, OnOk, OnErr, None};
+ghost use Rattle.std.specs.Prelude.{option_copied};
 ghost use Rattle.retry_quota.specs.Book.{default_book, version_book};
 ghost use Rattle.std.specs.Map.{lookup};
 ghost use Rattle.smithy_types.specs.Partition.{same_partition};
@@ -29,9 +31,15 @@ impl<L: Limiter> Model for Registry<L> {
 
     ghost Value = { Registers L };
 
-    ghost view = { λ r. record { books = r.buckets.items; limiters = r.limiters.items; bucket_names = r.bucket_names; limiter_names = r.limiter_names } };
+    ghost view = { λ r. record {
+      books = r.buckets.items;
+      limiters = r.limiters.items;
+      bucket_names = r.bucket_names;
+      limiter_names = r.limiter_names;
+    } };
 
-    ghost invariant = { λ r. AreBelow (length r.buckets.items) r.bucket_names × AreBelow (length r.limiters.items) r.limiter_names };
+    ghost invariant = { λ r. AreBelow (length r.buckets.items) r.bucket_names
+        × AreBelow (length r.limiters.items) r.limiter_names };
 }
 
 impl<L: Limiter> Registry<L> {
@@ -56,7 +64,8 @@ impl<L: Limiter> Registry<L> {
     pub fn add_bucket(&mut self, _alloc: Global, bucket: TokenBucket) -> Result<u32, OutOfMemory>
         ensures number { IfOk result (λ number. number ≡ length self.old.books) }
         ensures unnamed { AreBelow (length self.old.books) self.old.bucket_names }
-        ensures ok { IfOk result (λ _. self.new ≡ record self.old { books = self.old.books ++ bucket ∷ [] }) }
+        ensures ok { IfOk result (λ _. self.new ≡
+            record self.old { books = self.old.books ++ bucket ∷ [] }) }
         ensures err { OnErr result (self.new ≡ self.old) }
     {
         let number = next_number(self.buckets.len())?;
@@ -64,12 +73,13 @@ impl<L: Limiter> Registry<L> {
         Ok(number)
     }
 
-    /// Adds a limiter, and answers its number, which is kept under no name. Where there is no memory
-    /// or no number left, the limiter is dropped.
+    /// Adds a limiter, and answers its number, which is kept under no name. Where there is no
+    /// memory or no number left, the limiter is dropped.
     pub fn add_limiter(&mut self, _alloc: Global, limiter: L) -> Result<u32, OutOfMemory>
         ensures number { IfOk result (λ number. number ≡ length self.old.limiters) }
         ensures unnamed { AreBelow (length self.old.limiters) self.old.limiter_names }
-        ensures ok { IfOk result (λ _. self.new ≡ record self.old { limiters = self.old.limiters ++ limiter ∷ [] }) }
+        ensures ok { IfOk result (λ _. self.new ≡
+            record self.old { limiters = self.old.limiters ++ limiter ∷ [] }) }
         ensures err { OnErr result (self.new ≡ self.old) }
     {
         let number = next_number(self.limiters.len())?;
@@ -84,7 +94,8 @@ impl<L: Limiter> Registry<L> {
 
     // Whether the permit's bucket is there and holds as much.
     fn holds(&self, permit: &Permit) -> bool
-        ensures { result ≡ option_map_or (λ b. nat_le permit.now.amount b.held) (slice_get self.now.books permit.now.bucket) false }
+        ensures { result ≡ option_map_or (λ b. nat_le permit.now.amount b.held)
+            (slice_get self.now.books permit.now.bucket) false }
     {
         match self.buckets.get(permit.bucket as usize) {
             Some(book) => permit.amount as u64 <= book.sums().held,
@@ -156,9 +167,13 @@ impl<L: Limiter> Registry<L> {
 
     // The bucket that is asked for, or a new default one, whose number is kept under no name.
     fn bucket_or_new(&mut self, alloc: Global, asked: Option<u32>) -> Result<u32, OutOfMemory>
-        ensures number { IfOk result (λ number. MatchOption asked (number ≡ length self.old.books) (λ known. number ≡ known)) }
+        ensures number { IfOk result
+            (λ number. MatchOption asked (number ≡ length self.old.books)
+            (λ known. number ≡ known)) }
         ensures unnamed { IfNone asked (AreBelow (length self.old.books) self.old.bucket_names) }
-        ensures ok { OnOk result (MatchOption asked (self.new ≡ record self.old { books = self.old.books ++ plain_book 500 ∷ [] }) (λ known. self.new ≡ self.old)) }
+        ensures ok { OnOk result (MatchOption asked
+            (self.new ≡ record self.old { books = self.old.books ++ plain_book 500 ∷ [] })
+            (λ known. self.new ≡ self.old)) }
         ensures err { OnErr result (self.new ≡ self.old) }
     {
         match asked {
@@ -169,8 +184,12 @@ impl<L: Limiter> Registry<L> {
 
     // The limiter that is asked for, or a new one whose numbers are zero.
     fn limiter_or_new(&mut self, alloc: Global, asked: Option<u32>) -> Result<u32, OutOfMemory>
-        ensures number { IfOk result (λ number. MatchOption asked (number ≡ length self.old.limiters) (λ known. number ≡ known)) }
-        ensures ok { OnOk result (MatchOption asked (self.new ≡ record self.old { limiters = self.old.limiters ++ L.zero ∷ [] }) (λ known. self.new ≡ self.old)) }
+        ensures number { IfOk result
+            (λ number. MatchOption asked (number ≡ length self.old.limiters)
+            (λ known. number ≡ known)) }
+        ensures ok { OnOk result (MatchOption asked
+            (self.new ≡ record self.old { limiters = self.old.limiters ++ L.zero ∷ [] })
+            (λ known. self.new ≡ self.old)) }
         ensures err { OnErr result (self.new ≡ self.old) }
     {
         match asked {

@@ -1,3 +1,4 @@
+//! A partition table that threads share.
 ghost use Rattle.std.specs.Prelude.{◌≡◌};
 
 use crate::PartitionTable;

@@ -1,3 +1,4 @@
+//! The token bucket, as a book.
 ghost use Rattle.std.specs.Prelude.{◌≡◌, ◌≤◌, ◌↔◌, IsSome, IfSome, IsOk, IfOk, option_map};
 ghost use Rattle.retry_quota.specs.Book.{
   add,
@@ -36,9 +37,9 @@ pub(crate) const DEFAULT_TIMEOUT_RETRY_COST: u32 = 10;
 /// How many thousandths a token has.
 const THOUSANDTHS: u64 = 1000;
 
-/// A token bucket that bounds retries. Each retry acquires tokens, and what was acquired is released
-/// or forgotten once the retry's end is known. Where the tokens don't suffice, there is no retry.
-/// Time and success add thousandths of a token, and whole tokens come of them.
+/// A token bucket that bounds retries. Each retry acquires tokens, and what was acquired is
+/// released or forgotten once the retry's end is known. Where the tokens don't suffice, there is no
+/// retry. Time and success add thousandths of a token, and whole tokens come of them.
 #[derive(Drop)]
 pub struct TokenBucket {
     capacity: u64,
@@ -162,9 +163,12 @@ impl TokenBucket {
     /// refill counts, and whole tokens leave the fraction. The permit's bucket is 0.
     pub fn acquire(&mut self, kind: ErrorKind, now_secs: u64) -> Option<Permit>
         ensures book { self.new ≡ after (Acquire kind now_secs) self.old }
-        ensures reply { acquire_reply (option_map (λ p. p.amount) result) ≡ reply_to (Acquire kind now_secs) self.old }
-        ensures granted { IsSome result ↔ (cost_of kind self.old ≤ (ready now_secs self.old).available) }
-        ensures permit { IfSome result (λ p. p ≡ record { bucket = 0; amount = cost_of kind self.old }) }
+        ensures reply { acquire_reply (option_map (λ p. p.amount) result) ≡
+            reply_to (Acquire kind now_secs) self.old }
+        ensures granted { IsSome result
+            ↔ (cost_of kind self.old ≤ (ready now_secs self.old).available) }
+        ensures permit { IfSome result
+            (λ p. p ≡ record { bucket = 0; amount = cost_of kind self.old }) }
     {
         self.refill(now_secs);
         self.convert();

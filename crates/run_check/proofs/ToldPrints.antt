@@ -12,7 +12,7 @@ use Rattle.run_grammar.specs.Entry.{kind_of}
 use Rattle.run_grammar.specs.Fits.{fits}
 use Rattle.run_grammar.specs.Laws.{EachFits}
 use Rattle.run_grammar.specs.declared.answer.Entry.{Entry}
-use Rattle.runcheck.specs.Print.{begin_data, ending_data, entries_text, entry_data, line, run_text}
+use Rattle.runcheck.specs.Print.{begin_data, ending_data, entries_data, entries_text, entry_data, line, run_data, run_text}
 use Rattle.runcheck.specs.declared.ending.Ending.{Ending}
 use Rattle.runcheck.specs.declared.head.RunHead.{RunHead}
 use Rattle.serde_json.specs.Data.{Data, string}
@@ -23,7 +23,7 @@ use Rattle.value_json.specs.Names.{stop_text}
 use Rattle.value_json.specs.Spellable.{payload_spellable}
 use Rattle.value_json.proofs.PrintedHeads.{payload_read}
 use Rattle.value_json.proofs.PrintedNames.{kind_read}
-use Rattle.run_check.specs.Carried.{IsCarried, answer_tellable, answers_tellable, entries_data, run_data}
+use Rattle.run_check.specs.Carried.{IsCarried, answer_tellable, answers_tellable}
 use Rattle.run_check.specs.Follow.{call_of, calls_of}
 use Rattle.run_check.specs.Told.{IsTold, between, call_at, first_of, head_at, stop_at, told_at, told_by}
 use Rattle.run_check.specs.declared.told.Told.{Told}

@@ -1,14 +1,13 @@
 -- Which runs a text carries.
-use Rattle.std.specs.Prelude.{ℕ, ◌≡◌, ◌+◌, List, [], ◌∷◌, ◌++◌, Bool, true, ◌&&◌, IsUtf8}
+use Rattle.std.specs.Prelude.{◌≡◌, List, Bool, true, ◌&&◌, IsUtf8}
 use Rattle.std.specs.List.{list_all}
 use Rattle.json_back.specs.Lines.{are_readable}
 use Rattle.run_grammar.specs.declared.answer.Answer.{Answer}
 use Rattle.run_grammar.specs.declared.answer.Answer.TheVariants as answers
 use Rattle.run_grammar.specs.declared.answer.Entry.{Entry}
-use Rattle.runcheck.specs.Print.{begin_data, ending_data, entry_data, run_text}
+use Rattle.runcheck.specs.Print.{run_data, run_text}
 use Rattle.runcheck.specs.declared.ending.Ending.{Ending}
 use Rattle.runcheck.specs.declared.head.RunHead.{RunHead}
-use Rattle.serde_json.specs.Data.{Data}
 use Rattle.smithy_context.specs.declared.intercept.Change.{Change}
 use Rattle.smithy_context.specs.declared.intercept.Change.TheVariants as changes
 use Rattle.smithy_context.specs.declared.intercept.HookAnswer.{HookAnswer}
@@ -48,15 +47,6 @@ answer_tellable answer = answer_spellable answer
 
 abbrev pub answers_tellable : List Entry → Bool
 answers_tellable log = list_all (λ (e : Entry). answer_tellable e.answer) log
-
--- the lines of the entries, numbered from here on
-abbrev pub entries_data : ℕ → List Entry → List Data
-entries_data n [] = []
-entries_data n (e ∷ es) = entry_data n e ∷ entries_data (n + 1) es
-
--- all lines of a print
-abbrev pub run_data : RunHead → List Entry → Ending → List Data
-run_data head log e = begin_data head ∷ (entries_data 1 log ++ ending_data e ∷ [])
 
 -- JSON spells the input and each answer; no line has a number of more than 64 bits, or nests too deeply to be read; and the
 -- text is of characters.

@@ -57,7 +57,8 @@ fn failed(
     phase: Phase,
     response: Option<HttpResponse>,
 ) -> Result<Ending, OutOfMemory>
-    ensures { IfOk result (λ e. e ≡ error_ending head.now.error_kind (sdk_error_of fault phase response)) }
+    ensures { IfOk result (λ e. e ≡
+        error_ending head.now.error_kind (sdk_error_of fault phase response)) }
 {
     let error = InterceptorContext::sdk_error(fault, phase, response);
     Ending::of(Err(InvokeError::Sdk(error)), head)

@@ -4,7 +4,9 @@ ghost use Rattle.json_forms.specs.Reading.{Reads};
 ghost use Rattle.json_forms.specs.Forms.{named};
 ghost use Rattle.serde_json.specs.View.{view};
 ghost use Rattle.value_json.specs.Names.{all_hooks, hook_text};
-ghost use Rattle.run_check.specs.Failing.{failing_answer_at, failing_hook_at, hook_at, hook_failure_at, hook_fault_at, hook_outcome_at, told_answer_at};
+ghost use Rattle.run_check.specs.Failing.{failing_answer_at, failing_hook_at, hook_at};
+ghost use Rattle.run_check.specs.Failing.{hook_failure_at, hook_fault_at, hook_outcome_at};
+ghost use Rattle.run_check.specs.Failing.{told_answer_at};
 
 use json_forms::forms::{read_optional_text, read_tagged, read_word};
 use json_forms::{ReadError, read};

@@ -73,7 +73,8 @@ fn take<'a>(
     call: &Call,
 ) -> Result<bool, OutOfMemory>
     ensures yes { IfOk result (λ b. b ≡ true
-        → Taken walk.old walk.new standing.old standing.new entries.old.items entries.new.items call.now) }
+        → Taken walk.old walk.new standing.old standing.new entries.old.items entries.new.items
+        call.now) }
     ensures no { IfOk result (λ b. b ≡ false → Asks (position_of walk.old) call.now.kind
         → fits call.now.kind call.now.answer ≡ true → ⊥) }
 {

@@ -1,5 +1,6 @@
 //! Which prints are in reach. Each law is the contract of a function without a body.
-ghost use Rattle.run_check.specs.Laws.{EndedRunsAreReached, PrintsAreTold, UnfinishedRunsAreNot, WholeRunsAreReached};
+ghost use Rattle.run_check.specs.Laws.{EndedRunsAreReached, PrintsAreTold, UnfinishedRunsAreNot};
+ghost use Rattle.run_check.specs.Laws.{WholeRunsAreReached};
 
 /// A print whose data a text carries is read as what it was printed for, however its run ended.
 pub fn prints_are_told()

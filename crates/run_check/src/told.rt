@@ -5,7 +5,8 @@ ghost use Rattle.json_forms.specs.Lists.{list_of};
 ghost use Rattle.json_forms.specs.Reading.{Gives, Reads};
 ghost use Rattle.serde_json.specs.Errors.{IsMemory};
 ghost use Rattle.serde_json.specs.View.{items_view, view};
-ghost use Rattle.run_check.specs.Told.{IsTold, between, call_at, first_of, head_at, stop_at, told_at, told_by, told_parts};
+ghost use Rattle.run_check.specs.Told.{IsTold, between, call_at, first_of, head_at, stop_at};
+ghost use Rattle.run_check.specs.Told.{told_at, told_by, told_parts};
 
 use crate::failing::read_told_answer;
 use json_back::lines::values_of_lines;

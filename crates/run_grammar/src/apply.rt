@@ -147,7 +147,8 @@ impl Standing {
     // Makes the change of a hook, where it has one that it may write.
     fn write_any(&mut self, hook: Hook, written: &Option<Change>) -> Result<(), OutOfMemory>
         ensures ok { OnOk result (self.new ≡ change.written_by hook self.old written.now) }
-        ensures kept { OnOk result (self.new.context.view.settings ≡ self.old.context.view.settings) }
+        ensures kept { OnOk result (self.new.context.view.settings ≡
+            self.old.context.view.settings) }
         ensures err { OnErr result (self.new ≡ self.old) }
     {
         match written {
@@ -159,7 +160,8 @@ impl Standing {
     // Makes the change that this hook may write, and ignores any other.
     fn write(&mut self, hook: Hook, written: &Change) -> Result<(), OutOfMemory>
         ensures ok { OnOk result (self.new ≡ change.written hook self.old written.now) }
-        ensures kept { OnOk result (self.new.context.view.settings ≡ self.old.context.view.settings) }
+        ensures kept { OnOk result (self.new.context.view.settings ≡
+            self.old.context.view.settings) }
         ensures err { OnErr result (self.new ≡ self.old) }
     {
         match written {

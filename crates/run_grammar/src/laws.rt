@@ -6,7 +6,8 @@ ghost use Rattle.run_grammar.specs.Standing.{State};
 ghost use Rattle.run_grammar.specs.Grammar.{run};
 ghost use Rattle.run_grammar.specs.Machine.{Accepts, begin};
 ghost use Rattle.run_grammar.specs.Cases.{RunCases};
-ghost use Rattle.run_grammar.specs.Laws.{BegunAreTaken, GoesOn, IsRun, NoPrefix, OneQuestion, SomeAnswerFits};
+ghost use Rattle.run_grammar.specs.Laws.{BegunAreTaken, GoesOn, IsRun, NoPrefix, OneQuestion};
+ghost use Rattle.run_grammar.specs.Laws.{SomeAnswerFits};
 ghost use Rattle.run_grammar.specs.Outcomes.{OutcomeStands, RequestOrOutcomeStands};
 ghost use Rattle.run_grammar.specs.Attempts.{AttemptsComplete};
 ghost use Rattle.run_grammar.specs.HookRow.{HookRow};
@@ -18,7 +19,8 @@ ghost use Rattle.run_grammar.specs.Tokens.{TokensStand};
 
 /// A list is a run exactly where the machine that takes one entry at a time accepts it.
 pub fn runs_are_accepted()
-    ensures { (stop : StopPoint) (s : State) (l : List Entry) → IsRun stop s l ↔ Accepts (begin (run stop) s) s l }
+    ensures { (stop : StopPoint) (s : State) (l : List Entry) → IsRun stop s l
+        ↔ Accepts (begin (run stop) s) s l }
 {}
 
 /// A run is one of four: a configuration that ended early; one that left a failure, and the

@@ -23,6 +23,7 @@ pub enum Test {
     WentOn,
     /// A sleep of this role was started.
     HasStarted(Role),
+    /// The operation doesn't stream.
     NotStreaming,
     /// The body was read.
     BodyRead,
@@ -32,9 +33,13 @@ pub enum Test {
     DecidedNoAfter,
     /// A further attempt after a delay was decided.
     DecidedDelay,
+    /// An endpoint stands.
     EndpointStands,
+    /// The request's body is to be loaded into memory.
     LoadBody,
+    /// There is a request that can be sent again.
     CheckpointStands,
+    /// The outcome is a failure.
     FailureStands,
     /// The timeout of this role is set.
     TimeoutStands(Role),
@@ -47,7 +52,8 @@ impl Test {
     /// stands after it.
     #[tactic(auto, unfolding(crate::specs::Tests::failed, crate::specs::Tests::delayed, crate::specs::Tests::went, crate::specs::Tests::went_on, crate::specs::Tests::started, crate::specs::Tests::not_streaming, crate::specs::Tests::body_read, crate::specs::Tests::decided_yes, crate::specs::Tests::decided_no_after, crate::specs::Tests::decided_delay, crate::specs::Tests::endpoint_stands, crate::specs::Tests::load_body, crate::specs::Tests::checkpoint_stands, crate::specs::Tests::failure_stands, crate::specs::Tests::timeout_stands, crate::specs::Tests::token_needed, crate::specs::Entry::fails))]
     pub fn holds(self, kind: Kind, answer: &Answer, standing: &Standing) -> bool
-        ensures { (e : Entry) → kind_of e ≡ kind → e.answer ≡ answer.now → result ≡ holds self (record { context = standing.now; last = Some e }) }
+        ensures { (e : Entry) → kind_of e ≡ kind → e.answer ≡ answer.now →
+            result ≡ holds self (record { context = standing.now; last = Some e }) }
     {
         match self {
             Test::Failed => answer.fails(kind, standing.context.view.attempt),

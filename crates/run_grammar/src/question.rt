@@ -9,44 +9,55 @@ use smithy_types::{Endpoint, HttpRequest, HttpResponse, Identity, Outcome, Paylo
 /// A question with the parts of the run that it hands on. A part that doesn't stand is None.
 #[derive(Debug)]
 pub enum Question {
+    /// For a layer of settings.
     Configure {
         stage: ConfigureStage,
         settings: Settings,
     },
+    /// For what the interceptors of a hook do.
     Hook {
         hook: smithy_types::Hook,
         view: HookView,
     },
+    /// For the request that the input is.
     Serialize {
         input: Option<Payload>,
         settings: Settings,
     },
+    /// For the request's body, in memory.
     Load {
         request: Option<Shared<HttpRequest>>,
     },
+    /// For leave to make an attempt.
     Initial {
         settings: Settings,
     },
+    /// For a sleep.
     Start {
         role: Role,
         /// How long the sleep is, in nanoseconds.
         nanos: Option<u64>,
     },
+    /// Whether a sleep is over.
     Wait {
         role: Role,
     },
+    /// For an auth scheme and an identity.
     Choose {
         settings: Settings,
     },
+    /// For the endpoint.
     Endpoint {
         settings: Settings,
         identity: Option<Shared<Identity>>,
     },
+    /// For the request with the endpoint in it.
     Apply {
         settings: Settings,
         request: Option<Shared<HttpRequest>>,
         endpoint: Option<Shared<Endpoint>>,
     },
+    /// For the signed request.
     Sign {
         settings: Settings,
         request: Option<Shared<HttpRequest>>,
@@ -54,22 +65,27 @@ pub enum Question {
         identity: Option<Shared<Identity>>,
         endpoint: Option<Shared<Endpoint>>,
     },
+    /// For the response.
     Transmit {
         settings: Settings,
         request: Option<Shared<HttpRequest>>,
     },
+    /// For what a streaming operation's response is, by its head alone.
     Stream {
         settings: Settings,
         response: Option<Shared<HttpResponse>>,
     },
+    /// For the response's body, whole.
     Body {
         settings: Settings,
         response: Option<Shared<HttpResponse>>,
     },
+    /// For the output or the error that the response is.
     Deserialize {
         settings: Settings,
         response: Option<Shared<HttpResponse>>,
     },
+    /// Whether a further attempt is made.
     Decide {
         settings: Settings,
         request: Option<Shared<HttpRequest>>,
@@ -78,9 +94,11 @@ pub enum Question {
         /// The number of the attempt, from 1.
         attempt: u64,
     },
+    /// What is pending is given up.
     Abandon {
         abandoned: Abandonable,
     },
+    /// Everything is pending: the caller may wait.
     Park,
 }
 

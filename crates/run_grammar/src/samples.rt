@@ -1,7 +1,13 @@
 //! Sample runs, shown call by call over any requests, responses and payloads. Each is the contract
 //! of a function without a body.
-ghost use Rattle.run_grammar.specs.SampleRuns.{OneAttemptSucceeds, ConfigurationFails, FirstHookFails, TransmitFails, BodyFails, StopsBeforeTransmit, OperationCuts, OperationCutsLater, OperationCutsAttempt, AttemptCut, Retries, OperationCutsPause, SentOnce, GrantedLater};
-ghost use Rattle.run_grammar.specs.TokenRuns.{TokenDelays, TokenRefused, TokenFails, TokenUnslept, RefusalPauses, RefusalUnslept, TokenCut, PauseCut};
+ghost use Rattle.run_grammar.specs.SampleRuns.{OneAttemptSucceeds, ConfigurationFails};
+ghost use Rattle.run_grammar.specs.SampleRuns.{FirstHookFails, TransmitFails, BodyFails};
+ghost use Rattle.run_grammar.specs.SampleRuns.{StopsBeforeTransmit, OperationCuts};
+ghost use Rattle.run_grammar.specs.SampleRuns.{OperationCutsLater, OperationCutsAttempt};
+ghost use Rattle.run_grammar.specs.SampleRuns.{AttemptCut, Retries, OperationCutsPause, SentOnce};
+ghost use Rattle.run_grammar.specs.SampleRuns.{GrantedLater};
+ghost use Rattle.run_grammar.specs.TokenRuns.{TokenDelays, TokenRefused, TokenFails, TokenUnslept};
+ghost use Rattle.run_grammar.specs.TokenRuns.{RefusalPauses, RefusalUnslept, TokenCut, PauseCut};
 
 /// Runs of one attempt, and runs that never come to one: their calls, how many they are, and the
 /// outcome at the end.

@@ -1,6 +1,7 @@
 //! What stands in a run after the entries so far.
 ghost use Rattle.std.specs.Prelude.{◌≡◌, IfOk, true};
-ghost use Rattle.run_grammar.specs.Change.{nanos_for, loads_body, needs_token, is_spec_2_1, timeouts};
+ghost use Rattle.run_grammar.specs.Change.{nanos_for, loads_body, needs_token, is_spec_2_1};
+ghost use Rattle.run_grammar.specs.Change.{timeouts};
 ghost use Rattle.run_grammar.specs.Standing.{starting, asks, on_request_way, on_settled_way};
 
 use crate::Question;

@@ -1,6 +1,8 @@
 //! The grammar, as productions that code reads. Each function is the definition of its name.
 ghost use Rattle.std.specs.Prelude.{◌≡◌, IfOk};
-ghost use Rattle.run_grammar.specs.Grammar.{again, arm, armed, attempt, configured, finish, front, grant, grant_round, hook, op, opening, round, run, sending, settle, streaming, turn};
+ghost use Rattle.run_grammar.specs.Grammar.{again, arm, armed, attempt, configured, finish, front};
+ghost use Rattle.run_grammar.specs.Grammar.{grant, grant_round, hook, op, opening, round, run};
+ghost use Rattle.run_grammar.specs.Grammar.{sending, settle, streaming, turn};
 ghost use Rattle.run_grammar.specs.Production.{Nothing, Work, ◌⨟◌, Where, Rounds, Again, InAttempt};
 ghost use Rattle.run_grammar.specs.declared.production.Test.TheVariants as tests;
 ghost use Rattle.run_grammar.specs.declared.kind.Kind.TheVariants as kinds;
@@ -36,7 +38,8 @@ fn either(
     holds: Production,
     fails: Production,
 ) -> Result<Production, AllocError>
-    ensures { IfOk result (λ p. production_of p ≡ Where test (production_of holds) (production_of fails)) }
+    ensures { IfOk result (λ p. production_of p ≡
+        Where test (production_of holds) (production_of fails)) }
 {
     Ok(Production::Where(test, Box::new(alloc, holds)?, Box::new(alloc, fails)?))
 }
@@ -59,7 +62,8 @@ fn unless_failed(alloc: Global, rest: Production) -> Result<Production, AllocErr
 
 // A step of a halted word, and the rest of it.
 fn halted(alloc: Global, step: Production, rest: Production) -> Result<Production, AllocError>
-    ensures { IfOk result (λ p. production_of p ≡ (production_of step ⨟ Where tests.Failed Nothing (production_of rest))) }
+    ensures { IfOk result (λ p. production_of p ≡
+        (production_of step ⨟ Where tests.Failed Nothing (production_of rest))) }
 {
     let rest = unless_failed(alloc, rest)?;
     let found = then(alloc, step, rest)?;
@@ -67,7 +71,8 @@ fn halted(alloc: Global, step: Production, rest: Production) -> Result<Productio
 }
 
 fn rounds(alloc: Global, round: Production, further: Production) -> Result<Production, AllocError>
-    ensures { IfOk result (λ p. production_of p ≡ Rounds (production_of round) (production_of further)) }
+    ensures { IfOk result (λ p. production_of p ≡
+        Rounds (production_of round) (production_of further)) }
 {
     Ok(Production::Rounds(Box::new(alloc, round)?, Box::new(alloc, further)?))
 }
@@ -88,7 +93,8 @@ fn armed(
     after: Production,
 ) -> Result<Production, AllocError>
     requires { production_of without ≡ production_of within }
-    ensures { IfOk result (λ p. production_of p ≡ armed role (production_of within) (production_of after)) }
+    ensures { IfOk result (λ p. production_of p ≡
+        armed role (production_of within) (production_of after)) }
 {
     let first = arm(alloc, role)?;
     let scope = Production::Under(role, Box::new(alloc, within)?, Box::new(alloc, after)?);
@@ -230,7 +236,9 @@ fn further_now(alloc: Global) -> Result<Production, AllocError>
 
 // What a refusal with a pause leads to.
 fn long_poll(alloc: Global) -> Result<Production, AllocError>
-    ensures { IfOk result (λ p. production_of p ≡ (Work (kinds.Start roles.LongPoll) ⨟ Where (tests.HasStarted roles.LongPoll) (Work (kinds.Wait roles.LongPoll)) Nothing)) }
+    ensures { IfOk result (λ p. production_of p ≡
+        (Work (kinds.Start roles.LongPoll) ⨟ Where (tests.HasStarted roles.LongPoll)
+        (Work (kinds.Wait roles.LongPoll)) Nothing)) }
 {
     let wait = work(Kind::Wait(Role::LongPoll));
     let wait = only(alloc, Test::HasStarted(Role::LongPoll), wait)?;
@@ -240,7 +248,9 @@ fn long_poll(alloc: Global) -> Result<Production, AllocError>
 
 // What a decision of a delay leads to.
 fn further_later(alloc: Global) -> Result<Production, AllocError>
-    ensures { IfOk result (λ p. production_of p ≡ (Work (kinds.Start roles.Retry) ⨟ Where (tests.HasStarted roles.Retry) (Where tests.CheckpointStands (Work (kinds.Wait roles.Retry) ⨟ again) Nothing) Nothing)) }
+    ensures { IfOk result (λ p. production_of p ≡
+        (Work (kinds.Start roles.Retry) ⨟ Where (tests.HasStarted roles.Retry)
+        (Where tests.CheckpointStands (Work (kinds.Wait roles.Retry) ⨟ again) Nothing) Nothing)) }
 {
     let again = again(alloc)?;
     let wait = then(alloc, work(Kind::Wait(Role::Retry)), again)?;

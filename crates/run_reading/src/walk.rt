@@ -1,23 +1,28 @@
 //! A position in a production.
-ghost use Rattle.std.specs.Prelude.{◌≡◌, ◌↔◌, true, false, cond, take, suc, Some, IfNone, IfSome, IfOk, OnOk, List, [], ◌∷◌, ◌++◌};
+ghost use Rattle.std.specs.Prelude.{◌≡◌, ◌↔◌, true, false, cond, take, suc, Some, IfNone, IfSome};
+ghost use Rattle.std.specs.Prelude.{IfOk, OnOk, List, [], ◌∷◌, ◌++◌};
 ghost use Rattle.run_grammar.specs.Machine.{Spot};
 ghost use Rattle.run_grammar.specs.Tests.{holds};
 ghost use Rattle.run_reading.specs.declared.walk.Frame.{Frame};
-ghost use Rattle.run_reading.specs.Frames.{CutTo, Found, Reached, armed, around, is_at, is_further, is_over, or_over, outside, plug, spot_of, state_of, through};
+ghost use Rattle.run_reading.specs.Frames.{CutTo, Found, Reached, armed, around, is_at, is_further};
+ghost use Rattle.run_reading.specs.Frames.{is_over, or_over, outside, plug, spot_of, state_of};
+ghost use Rattle.run_reading.specs.Frames.{through};
 ghost use Rattle.run_reading.specs.Places.{place, position_of, staged, waits};
 ghost use Rattle.run_reading.specs.Productions.{production_of};
-ghost use Rattle.run_grammar.specs.Entry.{abandon_of, can_wait, pending, ready, same_role};
+ghost use Rattle.run_grammar.specs.Entry.{pending, ready};
 ghost use Rattle.run_grammar.specs.Machine.{Asks, Whole, begin, cut, first, next};
 ghost use Rattle.run_grammar.specs.Production.{Nothing};
 
 use crate::production::Production;
-use run_grammar::{Abandonable, Answer, Entry, Kind, Role, Standing, Test};
+use run_grammar::{Answer, Entry, Kind, Role, Standing, Test};
 use std::alloc::{AllocError, Global};
 
 /// What stands, and the last entry.
 #[derive(Clone, Copy)]
 pub struct Seen<'s> {
+    /// What stands.
     pub standing: &'s Standing,
+    /// The last entry, where there is one.
     pub last: Option<&'s Entry>,
 }
 
@@ -37,8 +42,11 @@ pub enum Frame<'a> {
 /// Where a production begins.
 #[derive(Clone, Copy)]
 pub enum Begun {
+    /// Nothing is asked, and it is over.
     Over,
+    /// Nothing is asked, and a further round follows.
     Further,
+    /// A question of this kind is asked.
     At(Kind),
 }
 
@@ -128,7 +136,8 @@ fn inner<'a>(left: &mut Vec<Frame<'a>>) -> Option<Frame<'a>>
 
 // What was found within the innermost frame: where nothing is asked, the frame is left.
 fn outward<'a>(begun: Begun, left: &mut Vec<Frame<'a>>) -> Begun
-    ensures { (fs : List Frame) (f : Frame) (t : Spot) → Found begun (fs ++ f ∷ []) left.old.items t → Found result fs left.new.items (through f t) }
+    ensures { (fs : List Frame) (f : Frame) (t : Spot) →
+        Found begun (fs ++ f ∷ []) left.old.items t → Found result fs left.new.items (through f t) }
 {
     match begun {
         Begun::At(_) => {}
@@ -143,7 +152,8 @@ fn first<'a>(
     seen: Seen<'_>,
     left: &mut Vec<Frame<'a>>,
 ) -> Result<Begun, AllocError>
-    ensures { IfOk result (λ b. Found b left.old.items left.new.items (first (production_of production.now) (armed left.old.items) (state_of seen.entry))) }
+    ensures { IfOk result (λ b. Found b left.old.items left.new.items
+        (first (production_of production.now) (armed left.old.items) (state_of seen.entry))) }
 {
     match production {
         Production::Nothing => Ok(Begun::Over),
@@ -198,7 +208,8 @@ fn around<'a>(
     left: &mut Vec<Frame<'a>>,
 ) -> Result<Begun, AllocError>
     requires { is_at begun ≡ false }
-    ensures { IfOk result (λ b. Found b left.old.items left.new.items (around frame.entry (spot_of begun) (armed left.old.items) (state_of seen.entry))) }
+    ensures { IfOk result (λ b. Found b left.old.items left.new.items
+        (around frame.entry (spot_of begun) (armed left.old.items) (state_of seen.entry))) }
 {
     match frame {
         Frame::Then(after) => {
@@ -224,7 +235,8 @@ fn around<'a>(
 
 // Where the whole goes on after what was found within what is left around it.
 fn resume<'a>(begun: Begun, seen: Seen<'_>, left: &mut Vec<Frame<'a>>) -> Result<Begun, AllocError>
-    ensures { IfOk result (λ b. (fs : List Frame) (t : Spot) → Found begun fs left.old.items t → Reached b left.new.items (outside fs t [] (state_of seen.entry))) }
+    ensures { IfOk result (λ b. (fs : List Frame) (t : Spot) → Found begun fs left.old.items t →
+        Reached b left.new.items (outside fs t [] (state_of seen.entry))) }
 {
     let mut found = begun;
     'frames: while !found.is_at() {
@@ -244,14 +256,15 @@ fn cut<'a>(
     seen: Seen<'_>,
     left: &mut Vec<Frame<'a>>,
 ) -> Result<Option<Begun>, AllocError>
-    ensures { IfOk result (λ o. CutTo o left.new.items (cut (plug left.old.items Nothing) role) (state_of seen.entry)) }
+    ensures { IfOk result (λ o. CutTo o left.new.items (cut (plug left.old.items Nothing) role)
+        (state_of seen.entry)) }
 {
     let mut inside = false;
     'frames: while let Some(frame) = inner(left) {
         match frame {
             Frame::Within => inside = true,
             Frame::Scope(armed, after) => {
-                if same_role(armed, role) {
+                if armed.is(role) {
                     let begun = begin_after(inside, after, seen, left)?;
                     let reached = resume(begun, seen, left)?;
                     return Ok(Some(reached));
@@ -270,7 +283,9 @@ fn begin_after<'a>(
     seen: Seen<'_>,
     left: &mut Vec<Frame<'a>>,
 ) -> Result<Begun, AllocError>
-    ensures { IfOk result (λ b. Found b left.old.items left.new.items (first (cond inside (production_of after.now) Nothing) (armed left.old.items) (state_of seen.entry))) }
+    ensures { IfOk result (λ b. Found b left.old.items left.new.items
+        (first (cond inside (production_of after.now) Nothing) (armed left.old.items)
+        (state_of seen.entry))) }
 {
     if inside {
         let begun = first(after, seen, left)?;
@@ -283,7 +298,8 @@ fn begin_after<'a>(
 // The deadline that is armed at this frame.
 fn armed_at(left: &[Frame], at: usize) -> Option<Role>
     ensures none { IfNone result (armed (take (suc at) left.now) ≡ armed (take at left.now)) }
-    ensures some { IfSome result (λ d. armed (take (suc at) left.now) ≡ d ∷ armed (take at left.now)) }
+    ensures some { IfSome result (λ d. armed (take (suc at) left.now) ≡ d
+        ∷ armed (take at left.now)) }
 {
     match left.get(at) {
         None => None,
@@ -344,7 +360,8 @@ fn moved<'a>(
     seen: Seen<'_>,
     left: &mut Vec<Frame<'a>>,
 ) -> Result<Stage, AllocError>
-    ensures { IfOk result (λ g. place g left.new.items ≡ next (place stage left.old.items) (state_of seen.entry) entry.now) }
+    ensures { IfOk result (λ g. place g left.new.items ≡
+        next (place stage left.old.items) (state_of seen.entry) entry.now) }
 {
     match stage {
         Stage::Whole | Stage::Dead => Ok(Stage::Dead),
@@ -388,6 +405,7 @@ fn is_ready(entry: &Entry) -> bool
 pub struct Walk<'a> {
     /// What is left around the question at hand, the outermost first.
     pub left: Vec<Frame<'a>>,
+    /// What is waited for.
     pub stage: Stage,
 }
 
@@ -398,7 +416,8 @@ impl<'a> Walk<'a> {
         production: &'a Production,
         seen: Seen<'_>,
     ) -> Result<Walk<'a>, AllocError>
-        ensures { IfOk result (λ w. position_of w ≡ begin (production_of production.now) (state_of seen.entry)) }
+        ensures { IfOk result (λ w. position_of w ≡
+            begin (production_of production.now) (state_of seen.entry)) }
     {
         let mut left = Vec::new(alloc);
         let begun = first(production, seen, &mut left)?;
@@ -418,13 +437,14 @@ impl<'a> Walk<'a> {
             Stage::Asking(asked) => kind == asked,
             Stage::Waiting(_, None) => kind == Kind::Park,
             Stage::Waiting(_, Some((role, _))) => kind == Kind::Wait(role),
-            Stage::Cutting(cut, _) => kind == abandon_of(cut),
+            Stage::Cutting(cut, _) => kind == cut.given_up_by(),
         }
     }
 
     /// Takes an entry; `seen` is what stands after it.
     pub fn take(&mut self, entry: &Entry, seen: Seen<'_>) -> Result<(), AllocError>
-        ensures { OnOk result (position_of self.new ≡ next (position_of self.old) (state_of seen.entry) entry.now) }
+        ensures { OnOk result (position_of self.new ≡
+            next (position_of self.old) (state_of seen.entry) entry.now) }
     {
         self.stage = moved(self.stage, entry, seen, &mut self.left)?;
         Ok(())
@@ -442,46 +462,5 @@ impl<'a> Walk<'a> {
 fn pending(entry: &Entry) -> bool
     ensures { result ≡ pending entry.now }
 {
-    can_wait(entry.question.kind()) && matches!(entry.answer, Answer::Pending)
-}
-
-// Whether a question of this kind may be answered Pending.
-fn can_wait(kind: Kind) -> bool
-    ensures { result ≡ can_wait kind }
-{
-    matches!(
-        kind,
-        Kind::Load | Kind::Wait(_) | Kind::Choose | Kind::Endpoint | Kind::Transmit | Kind::Body
-    )
-}
-
-// The kind that gives up a kind that is pending.
-fn abandon_of(kind: Kind) -> Kind
-    ensures { result ≡ abandon_of kind }
-{
-    match kind {
-        Kind::Load => Kind::Abandon(Abandonable::Load),
-        Kind::Choose => Kind::Abandon(Abandonable::Choose),
-        Kind::Endpoint => Kind::Abandon(Abandonable::Endpoint),
-        Kind::Transmit => Kind::Abandon(Abandonable::Transmit),
-        Kind::Body => Kind::Abandon(Abandonable::Body),
-        Kind::Wait(Role::Send) => Kind::Abandon(Abandonable::WaitSend),
-        Kind::Wait(Role::Retry) => Kind::Abandon(Abandonable::WaitRetry),
-        Kind::Wait(Role::LongPoll) => Kind::Abandon(Abandonable::WaitLongPoll),
-        _ => Kind::Park,
-    }
-}
-
-// Whether the two roles are one.
-fn same_role(a: Role, b: Role) -> bool
-    ensures { result ≡ same_role a b }
-{
-    match (a, b) {
-        (Role::Operation, Role::Operation) => true,
-        (Role::Attempt, Role::Attempt) => true,
-        (Role::Send, Role::Send) => true,
-        (Role::Retry, Role::Retry) => true,
-        (Role::LongPoll, Role::LongPoll) => true,
-        _ => false,
-    }
+    entry.question.kind().can_wait() && matches!(entry.answer, Answer::Pending)
 }

@@ -1,2 +1,4 @@
 pub mod Lines
 pub mod Stopped
+pub mod Depths
+pub mod Readable

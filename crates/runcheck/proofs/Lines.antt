@@ -6,15 +6,15 @@ use Rattle.serde_json.specs.Written.{compact_text}
 use Rattle.run_grammar.specs.declared.answer.Entry.{Entry}
 use Rattle.runcheck.specs.Print.{line, entry_data, entries_text}
 
-entries_text-cons : (n : ℕ) (e : Entry) (es : List Entry) → entries_text n (e ∷ es) ≡ line (entry_data n e) ++ entries_text (n + 1) es
+pub entries_text-cons : (n : ℕ) (e : Entry) (es : List Entry) → entries_text n (e ∷ es) ≡ line (entry_data n e) ++ entries_text (n + 1) es
 unfolding entries_text
 entries_text-cons n e es = refl
 
-entries_text-nil : (n : ℕ) → entries_text n [] ≡ []
+pub entries_text-nil : (n : ℕ) → entries_text n [] ≡ []
 unfolding entries_text
 entries_text-nil n = refl
 
-drop-step : (i : ℕ) (es : List Entry) (e : Entry) → i < length es → e ≡ get_or es i e → drop i es ≡ e ∷ drop (i + 1) es
+pub drop-step : (i : ℕ) (es : List Entry) (e : Entry) → i < length es → e ≡ get_or es i e → drop i es ≡ e ∷ drop (i + 1) es
 drop-step i es e h f =
     drop-cons es i e h ∙ ap (λ (q : Entry). q ∷ drop (suc i) es) (sym f) ∙ ap (λ (j : ℕ). e ∷ drop j es) (sym (add-one i))
 

@@ -46,6 +46,11 @@ unfoldable pub entries_text : ℕ → List Entry → List ℕ
 entries_text n [] = []
 entries_text n (e ∷ es) = line (entry_data n e) ++ entries_text (n + 1) es
 
+-- the data of those lines
+abbrev pub entries_data : ℕ → List Entry → List Data
+entries_data n [] = []
+entries_data n (e ∷ es) = entry_data n e ∷ entries_data (n + 1) es
+
 unfoldable pub error_data : SdkError Payload → Data
 error_data (errors.ConstructionFailure fault) = row (string (codes "ConstructionFailure") ∷ fault_data fault ∷ [])
 error_data (errors.TimeoutError fault) = row (string (codes "TimeoutError") ∷ fault_data fault ∷ [])
@@ -62,3 +67,7 @@ ending_data (endings.WrongType payload) = row (string (codes "WrongType") ∷ pa
 
 unfoldable pub run_text : RunHead → List Entry → Ending → List ℕ
 run_text s log e = line (begin_data s) ++ entries_text 1 log ++ line (ending_data e)
+
+-- the data of all lines
+abbrev pub run_data : RunHead → List Entry → Ending → List Data
+run_data head log e = begin_data head ∷ (entries_data 1 log ++ ending_data e ∷ [])

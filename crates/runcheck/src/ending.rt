@@ -3,7 +3,8 @@ ghost use Rattle.std.specs.Prelude.{◌≡◌, Some, IfOk};
 ghost use Rattle.json_forms.specs.JsonData.{data_of};
 ghost use Rattle.json_forms.specs.Prints.{null_or};
 ghost use Rattle.value_json.specs.Values.{request_data};
-ghost use Rattle.runcheck.specs.Endings.{output_ending, error_ending, failed_ending, stopped_by, ending_of, stopped_ending_of};
+ghost use Rattle.runcheck.specs.Endings.{output_ending, error_ending, failed_ending, stopped_by};
+ghost use Rattle.runcheck.specs.Endings.{ending_of, stopped_ending_of};
 ghost use Rattle.runcheck.specs.Print.{error_data, ending_data};
 
 use crate::head::RunHead;
@@ -31,7 +32,8 @@ pub enum Ending {
 }
 
 impl Ending {
-    /// The ending of a run to its end, its output and its error held to the kinds that are looked for.
+    /// The ending of a run to its end, its output and its error held to the kinds that are looked
+    /// for.
     #[tactic(auto, unfolding(crate::specs::Endings::ending_of))]
     pub fn of(
         answer: Result<Payload, InvokeError<Payload>>,

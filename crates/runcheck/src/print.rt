@@ -1,7 +1,11 @@
 //! The print of a run.
-ghost use Rattle.std.specs.Prelude.{◌≡◌, ◌+◌, ◌++◌, IfOk, OnOk, option_copied};
+ghost use Rattle.std.specs.Prelude.{◌≡◌, ◌≤◌, ◌+◌, ◌++◌, true, IfOk, IsUtf8, OnOk, option_copied};
+ghost use Rattle.serde_json.specs.Data.{depth};
+ghost use Rattle.serde_json.specs.Read.{max_depth};
+ghost use Rattle.json_back.specs.Lines.{are_readable, is_readable};
 ghost use Rattle.json_forms.specs.JsonData.{data_of};
-ghost use Rattle.runcheck.specs.Print.{line, begin_data, transmitted, entry_data, entries_text, run_text};
+ghost use Rattle.runcheck.specs.Print.{line, begin_data, transmitted, ending_data, entry_data};
+ghost use Rattle.runcheck.specs.Print.{entries_data, entries_text, run_data, run_text};
 
 use crate::ending::{Ending, print_ending};
 use crate::head::RunHead;
@@ -13,21 +17,58 @@ use value_json::answer::{print_answer, print_kind};
 use value_json::http::{print_payload, print_request};
 use value_json::names::stop_name;
 
-/// The whole print: what it was begun with, the entries numbered from 1, and the ending.
-#[tactic(auto, unfolding(crate::specs::Print::run_text))]
+/// The whole print: what it was begun with, the entries numbered from 1, and the ending. Each line
+/// is data that JSON carries, so it is read as that data, and the print is of characters.
+#[tactic(auto, unfolding(crate::specs::Print::run_text), using(crate::proofs::Readable::run_readable, crate::proofs::Readable::run_of_characters))]
 pub fn print_run(
     alloc: Global,
     head: &RunHead,
     entries: &[Entry],
     ending: &Ending,
 ) -> Result<Vec<u8>, OutOfMemory>
-    ensures { IfOk result (λ v. v.items ≡ run_text head.now entries.now ending.now) }
+    ensures text { IfOk result (λ v. v.items ≡ run_text head.now entries.now ending.now) }
+    ensures readable { IfOk result
+        (λ v. are_readable (run_data head.now entries.now ending.now) ≡ true) }
+    ensures characters { IfOk result (λ v. IsUtf8 (run_text head.now entries.now ending.now)) }
 {
     let mut out = Vec::new(alloc);
-    print_begin(alloc, head)?.write_line(alloc, &mut out)?;
+    write_begin(alloc, head, &mut out)?;
     print_entries(alloc, entries, &mut out)?;
-    print_ending(alloc, ending)?.write_line(alloc, &mut out)?;
+    write_ending(alloc, ending, &mut out)?;
     Ok(out)
+}
+
+// Writes a line. It is read as what it was written for, where that nests no deeper than a reader
+// goes.
+#[tactic(auto, using(crate::proofs::Readable::line_readable, crate::proofs::Readable::line_of_characters))]
+fn write(alloc: Global, json: &Json, out: &mut Vec<u8>) -> Result<(), OutOfMemory>
+    ensures text { OnOk result (out.new.items ≡ out.old.items ++ line (data_of json.now)) }
+    ensures readable { OnOk result
+        (depth (data_of json.now) ≤ max_depth → is_readable (data_of json.now) ≡ true) }
+    ensures characters { OnOk result (IsUtf8 (line (data_of json.now))) }
+{
+    json.write_line(alloc, out)?;
+    Ok(())
+}
+
+fn write_begin(alloc: Global, head: &RunHead, out: &mut Vec<u8>) -> Result<(), OutOfMemory>
+    ensures text { OnOk result (out.new.items ≡ out.old.items ++ line (begin_data head.now)) }
+    ensures readable { OnOk result (is_readable (begin_data head.now) ≡ true) }
+    ensures characters { OnOk result (IsUtf8 (line (begin_data head.now))) }
+{
+    let json = print_begin(alloc, head)?;
+    write(alloc, &json, out)?;
+    Ok(())
+}
+
+fn write_ending(alloc: Global, ending: &Ending, out: &mut Vec<u8>) -> Result<(), OutOfMemory>
+    ensures text { OnOk result (out.new.items ≡ out.old.items ++ line (ending_data ending.now)) }
+    ensures readable { OnOk result (is_readable (ending_data ending.now) ≡ true) }
+    ensures characters { OnOk result (IsUtf8 (line (ending_data ending.now))) }
+{
+    let json = print_ending(alloc, ending)?;
+    write(alloc, &json, out)?;
+    Ok(())
 }
 
 // The first line.
@@ -47,13 +88,31 @@ fn print_begin(alloc: Global, head: &RunHead) -> Result<Json, OutOfMemory>
 
 /// The lines of the entries, numbered from 1.
 pub fn print_entries(alloc: Global, entries: &[Entry], out: &mut Vec<u8>) -> Result<(), OutOfMemory>
-    ensures { OnOk result (out.new.items ≡ out.old.items ++ entries_text 1 entries.now) }
+    ensures text { OnOk result (out.new.items ≡ out.old.items ++ entries_text 1 entries.now) }
+    ensures readable { OnOk result (are_readable (entries_data 1 entries.now) ≡ true) }
+    ensures characters { OnOk result (IsUtf8 (entries_text 1 entries.now)) }
 {
     let mut number = 1;
     for entry in entries {
-        print_entry(alloc, number, entry)?.write_line(alloc, out)?;
+        write_entry(alloc, number, entry, out)?;
         number = next(number)?;
     }
+    Ok(())
+}
+
+fn write_entry(
+    alloc: Global,
+    number: u64,
+    entry: &Entry,
+    out: &mut Vec<u8>,
+) -> Result<(), OutOfMemory>
+    ensures text { OnOk result (out.new.items ≡ out.old.items
+        ++ line (entry_data number entry.now)) }
+    ensures readable { OnOk result (is_readable (entry_data number entry.now) ≡ true) }
+    ensures characters { OnOk result (IsUtf8 (line (entry_data number entry.now))) }
+{
+    let json = print_entry(alloc, number, entry)?;
+    write(alloc, &json, out)?;
     Ok(())
 }
 

@@ -1,16 +1,22 @@
 -- The parts of a client that a script describes.
-use Rattle.std.specs.Prelude.{◌≡◌, ℕ, Bool, true, false, List, [], ◌∷◌, ◌++◌, map, Option, None, Some, option_map, option_to_list}
+use Rattle.std.specs.Prelude.{◌≡◌, ℕ, Bool, true, false, List, [], ◌∷◌, ◌++◌, map, Option, None, Some, option_map, option_to_list, find}
 use Rattle.auth_parts.specs.declared.sources.IdentitySource.TheVariants.{Outside}
 use Rattle.auth_parts.specs.declared.sources.RegisteredSource.{RegisteredSource}
+use Rattle.client_scripts.specs.Schemes.{has_id}
+use Rattle.client_scripts.specs.declared.terms.ApiKeyChoice.{ApiKeyChoice}
 use Rattle.client_scripts.specs.declared.terms.AuthChoice.{AuthChoice}
 use Rattle.client_scripts.specs.declared.terms.AuthChoice.TheVariants as auths
 use Rattle.client_scripts.specs.declared.terms.ClassifierChoice.{ClassifierChoice}
 use Rattle.client_scripts.specs.declared.terms.ClassifierChoice.TheVariants.{Modeled, Transient, Status}
+use Rattle.client_scripts.specs.declared.terms.HttpSchemeChoice.{HttpSchemeChoice}
+use Rattle.client_scripts.specs.declared.terms.HttpSchemeChoice.TheVariants as choices
 use Rattle.client_scripts.specs.declared.terms.RetryChoice.{RetryChoice}
 use Rattle.client_scripts.specs.declared.terms.RetryChoice.TheVariants as retries
 use Rattle.client_service.specs.Service.{scheme_of}
 use Rattle.client_service.specs.declared.error.ServiceError.{ServiceError}
 use Rattle.client_service.specs.declared.scheme.ServiceScheme.{ServiceScheme}
+use Rattle.client_service.specs.declared.scheme.ServiceScheme.TheVariants as schemes
+use Rattle.http_schemes.specs.declared.api_key.ApiKeyAuthScheme.{ApiKeyAuthScheme}
 use Rattle.identity_cell.specs.declared.identity_cache.SharedIdentityCache.TheVariants.{NoCache}
 use Rattle.identity_cell.specs.declared.no_auth.NoAuthIdentityResolver.{NoAuthIdentityResolver}
 use Rattle.operation_builder.specs.Built.{wanted}
@@ -56,9 +62,25 @@ retry_of (retries.Standard retry) = Some retry
 
 -- ---- signing
 
--- each scheme by its id
-abbrev pub scheme_named : List ℕ → Scheme ServiceScheme
-scheme_named id = Brought (scheme_of id)
+abbrev pub key_scheme : ApiKeyChoice → ApiKeyAuthScheme
+key_scheme k = record { location = k.location; name = k.name; prefix = k.prefix }
+
+-- by a bearer token, or by the API key
+abbrev pub scheme_by : HttpSchemeChoice → ServiceScheme
+scheme_by choices.Bearer = schemes.Bearer (record {})
+scheme_by (choices.ApiKey key) = schemes.ApiKey (key_scheme key)
+
+-- the scheme of which something is said, or the service's own of this id
+abbrev pub scheme_or_own : List ℕ → Option HttpSchemeChoice → ServiceScheme
+scheme_or_own id None = scheme_of id
+scheme_or_own id (Some choice) = scheme_by choice
+
+-- the scheme of HTTP that has this id, if one is among these, and else the service's own
+abbrev pub scheme_of_id : List HttpSchemeChoice → List ℕ → ServiceScheme
+scheme_of_id https id = scheme_or_own id (find (has_id id) https)
+
+abbrev pub scheme_named : List HttpSchemeChoice → List ℕ → Scheme ServiceScheme
+scheme_named https id = Brought (scheme_of_id https id)
 
 -- each identity comes from the outside
 abbrev pub source_of : IdentityRecord → RegisteredSource (IdentityResolver NoAuthIdentityResolver)
@@ -69,7 +91,7 @@ auth_parts_of auths.NoAuth = record { no_auth = true; options = options.NoAuth; 
 auth_parts_of (auths.Schemes a) = record {
   no_auth = false;
   options = options.Listed a.options;
-  schemes = map scheme_named a.schemes;
+  schemes = map (scheme_named a.http_schemes) a.schemes;
   sources = map source_of a.identities;
   cache = a.cache;
 }

@@ -1,10 +1,13 @@
 //! How a client signs.
-ghost use Rattle.std.specs.Prelude.{◌≡◌, map, IfOk};
-ghost use Rattle.scripted_client.specs.Parts.{auth_parts_of, auth_terms_of, scheme_named, source_of};
+ghost use Rattle.std.specs.Prelude.{◌≡◌, find, map, IfOk, option_copied};
+ghost use Rattle.client_scripts.specs.Schemes.{has_id};
+ghost use Rattle.scripted_client.specs.Parts.{auth_parts_of, auth_terms_of, key_scheme, scheme_by};
+ghost use Rattle.scripted_client.specs.Parts.{scheme_of_id, scheme_named, source_of};
 
 use auth_parts::{IdentitySource, RegisteredSource};
-use client_scripts::{AuthChoice, AuthSchemes};
+use client_scripts::{ApiKeyChoice, AuthChoice, AuthSchemes, HttpSchemeChoice};
 use client_service::ServiceScheme;
+use http_schemes::{ApiKeyAuthScheme, BearerAuthScheme};
 use identity_cell::{IdentityCache, NoAuthIdentityResolver, SharedIdentityCache};
 use operation_builder::{AuthOptions, IdentityResolver, Scheme};
 use scripted::IdentityRecord;
@@ -77,7 +80,8 @@ fn listed(alloc: Global, auth: AuthSchemes) -> Result<(AuthParts, AuthTerms), Ou
     ensures terms { IfOk result (λ made. made.1 ≡ auth_terms_of (AuthChoice.Schemes auth)) }
 {
     let sources = sources_of(alloc, auth.identities.as_slice())?;
-    let schemes = schemes_of(alloc, auth.schemes)?;
+    let http_schemes = auth.http_schemes;
+    let schemes = schemes_of(alloc, http_schemes.as_slice(), auth.schemes)?;
     let parts = AuthParts {
         no_auth: false,
         options: AuthOptions::Listed(auth.options),
@@ -92,15 +96,73 @@ fn listed(alloc: Global, auth: AuthSchemes) -> Result<(AuthParts, AuthTerms), Ou
     Ok((parts, terms))
 }
 
-// The schemes of these ids.
-fn schemes_of(alloc: Global, ids: List<Text>) -> Result<List<Scheme<ServiceScheme>>, OutOfMemory>
-    ensures { IfOk result (λ list. list ≡ map scheme_named ids) }
+// The schemes of these ids, where this is said of those of HTTP.
+fn schemes_of(
+    alloc: Global,
+    http_schemes: &[HttpSchemeChoice],
+    ids: List<Text>,
+) -> Result<List<Scheme<ServiceScheme>>, OutOfMemory>
+    ensures { IfOk result (λ list. list ≡ map (scheme_named http_schemes.now) ids) }
 {
     let mut list = List::new();
     for id in ids.into_vec(alloc) {
-        list.push(alloc, Scheme::Brought(ServiceScheme::of(id)))?;
+        list.push(alloc, scheme_named(http_schemes, id)?)?;
     }
     Ok(list)
+}
+
+fn scheme_named(
+    http_schemes: &[HttpSchemeChoice],
+    id: Text,
+) -> Result<Scheme<ServiceScheme>, OutOfMemory>
+    ensures { IfOk result (λ scheme. scheme ≡ scheme_named http_schemes.now id) }
+{
+    Ok(Scheme::Brought(scheme_of_id(http_schemes, id)?))
+}
+
+// The scheme of HTTP that has this id, if that is said of one, and else the service's own.
+fn scheme_of_id(http_schemes: &[HttpSchemeChoice], id: Text) -> Result<ServiceScheme, OutOfMemory>
+    ensures { IfOk result (λ scheme. scheme ≡ scheme_of_id http_schemes.now id) }
+{
+    match choice_of(http_schemes, id.as_str()) {
+        Some(choice) => scheme_by(choice),
+        None => Ok(ServiceScheme::of(id)),
+    }
+}
+
+// What is said of the scheme of HTTP that has this id.
+fn choice_of<'s>(http_schemes: &'s [HttpSchemeChoice], id: &str) -> Option<&'s HttpSchemeChoice>
+    ensures { option_copied result ≡ find (has_id id.now) http_schemes.now }
+{
+    http_schemes.iter().find(|scheme| scheme.id() == id)
+}
+
+// The scheme of HTTP of which this is said.
+fn scheme_by(choice: &HttpSchemeChoice) -> Result<ServiceScheme, OutOfMemory>
+    ensures { IfOk result (λ scheme. scheme ≡ scheme_by choice.now) }
+{
+    match choice {
+        HttpSchemeChoice::Bearer => Ok(ServiceScheme::Bearer(BearerAuthScheme::new())),
+        HttpSchemeChoice::ApiKey(key) => Ok(ServiceScheme::ApiKey(key_scheme(key)?)),
+    }
+}
+
+// The scheme that signs by this API key.
+fn key_scheme(key: &ApiKeyChoice) -> Result<ApiKeyAuthScheme, OutOfMemory>
+    ensures { IfOk result (λ scheme. scheme ≡ key_scheme key.now) }
+{
+    let name = key.name.clone()?;
+    let prefix = optional_text(&key.prefix)?;
+    Ok(ApiKeyAuthScheme::new(key.location, name, prefix))
+}
+
+fn optional_text(text: &Option<Text>) -> Result<Option<Text>, OutOfMemory>
+    ensures { IfOk result (λ copy. copy ≡ text.now) }
+{
+    match text {
+        Some(text) => Ok(Some(text.clone()?)),
+        None => Ok(None),
+    }
 }
 
 // A source for each of these identities.

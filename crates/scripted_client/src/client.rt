@@ -1,8 +1,10 @@
 //! A client of a script.
 ghost use Rattle.std.specs.Prelude.{◌≡◌, None, map, IfOk};
-ghost use Rattle.scripted_client.specs.Parts.{classifier_of, identities_of, plugin_layer, plugins_of};
+ghost use Rattle.scripted_client.specs.Parts.{classifier_of, identities_of, plugin_layer};
+ghost use Rattle.scripted_client.specs.Parts.{plugins_of};
 ghost use Rattle.operation_builder.specs.Refusal.{refusal};
-ghost use Rattle.scripted_client.specs.Clients.{Builds, IsBuiltBy, IsOperationOf, builder_of, builder_with};
+ghost use Rattle.scripted_client.specs.Clients.{Builds, IsBuiltBy, IsOperationOf, builder_of};
+ghost use Rattle.scripted_client.specs.Clients.{builder_with};
 
 use crate::auth::{AuthParts, auth_parts};
 use crate::builder::{ClientNames, builder_with};
@@ -76,7 +78,8 @@ pub fn build_client(
     object: ClientObject,
     registry: &mut ClientQuota,
 ) -> Result<BuiltClient, OutOfMemory>
-    ensures { IfOk result (λ client. Builds ⟦<Classifier<ServiceError> as ClassifyRetry>⟧.ranked registry.old object client registry.new) }
+    ensures { IfOk result (λ client. Builds ⟦<Classifier<ServiceError> as ClassifyRetry>⟧.ranked
+        registry.old object client registry.new) }
 {
     let operation = operation_of(&object.target)?;
     let service = &object.target.service;
@@ -133,7 +136,8 @@ fn signed(
     ensures { IfOk result (λ builder. builder ≡ builder_with
         (record { service = target.service; operation = target.operation; url = target.url }) rules
         (map classifier_of classifiers) auth
-        (plugins_of (plugin_layer partition target.prefix preference rules.flags.v2) rules.flags.enforce)) }
+        (plugins_of (plugin_layer partition target.prefix preference rules.flags.v2)
+        rules.flags.enforce)) }
 {
     let ClientTarget {
         service,
@@ -159,7 +163,8 @@ fn plugged(
     auth: AuthParts,
     plugins: List<Plugin>,
 ) -> Result<ServiceBuilder, OutOfMemory>
-    ensures { IfOk result (λ builder. builder ≡ builder_with names rules (map classifier_of classifiers) auth plugins) }
+    ensures { IfOk result (λ builder. builder ≡
+        builder_with names rules (map classifier_of classifiers) auth plugins) }
 {
     let classifiers = classifiers_of(alloc, classifiers)?;
     Ok(builder_with(names, rules, classifiers, auth, plugins))
@@ -177,7 +182,8 @@ fn operation_of(target: &ClientTarget) -> Result<PayloadOperation, OutOfMemory>
 // Builds a client whose builder lacks nothing.
 fn build_world(alloc: Global, builder: ServiceBuilder) -> Result<BuiltWorld, OutOfMemory>
     requires { refusal builder ≡ None }
-    ensures { IfOk result (λ world. IsBuiltBy ⟦<Classifier<ServiceError> as ClassifyRetry>⟧.ranked builder world) }
+    ensures { IfOk result (λ world. IsBuiltBy ⟦<Classifier<ServiceError> as ClassifyRetry>⟧.ranked
+        builder world) }
 {
     let quota = Registry::new(alloc)?;
     let outside = ScriptedOutside::new(alloc, 0, List::new());

@@ -17,7 +17,8 @@ pub fn build_clients(
     registry: &mut ClientQuota,
     clients: &mut Vec<BuiltClient>,
 ) -> Result<(), OutOfMemory>
-    ensures { OnOk result (AreBuilt ⟦<Classifier<ServiceError> as ClassifyRetry>⟧.ranked registry.old objects clients.old.items clients.new.items registry.new) }
+    ensures { OnOk result (AreBuilt ⟦<Classifier<ServiceError> as ClassifyRetry>⟧.ranked
+        registry.old objects clients.old.items clients.new.items registry.new) }
 {
     for object in objects.into_vec(alloc) {
         clients.reserve(1)?;

@@ -14,7 +14,8 @@ pub(crate) fn partition_of(
     bucket: Option<usize>,
     registry: &mut ClientQuota,
 ) -> Result<Option<RetryPartition>, OutOfMemory>
-    ensures { IfOk result (λ partition. PartitionOf service.now bucket registry.old partition registry.new) }
+    ensures { IfOk result (λ partition. PartitionOf service.now bucket registry.old partition
+        registry.new) }
 {
     let Some(bucket) = bucket else {
         return Ok(None);
@@ -29,7 +30,8 @@ fn custom_partition(
     bucket: usize,
     registry: &mut ClientQuota,
 ) -> Result<RetryPartition, OutOfMemory>
-    ensures { IfOk result (λ partition. PartitionOf service.now (Some bucket) registry.old (Some partition) registry.new) }
+    ensures { IfOk result (λ partition. PartitionOf service.now (Some bucket) registry.old
+        (Some partition) registry.new) }
 {
     let Ok(bucket) = u32::try_from(bucket) else {
         return Err(OutOfMemory);

@@ -19,7 +19,8 @@ pub(crate) fn own_plugins(
     preference: Option<List<Text>>,
     flags: ClientFlags,
 ) -> Result<List<Plugin>, OutOfMemory>
-    ensures { IfOk result (λ list. list ≡ plugins_of (plugin_layer partition prefix preference flags.v2) flags.enforce) }
+    ensures { IfOk result (λ list. list ≡
+        plugins_of (plugin_layer partition prefix preference flags.v2) flags.enforce) }
 {
     let layer = plugin_layer(alloc, partition, prefix, preference, flags.v2)?;
     plugins_of(alloc, layer, flags)
@@ -96,7 +97,8 @@ fn put_preference(
     layer: &mut Layer,
     preference: Option<List<Text>>,
 ) -> Result<(), OutOfMemory>
-    ensures { OnOk result (layer.new ≡ putting (option_map Setting.Preference preference) layer.old) }
+    ensures { OnOk result (layer.new ≡
+        putting (option_map Setting.Preference preference) layer.old) }
 {
     match preference {
         Some(preference) => layer.put(alloc, Setting::Preference(preference)),

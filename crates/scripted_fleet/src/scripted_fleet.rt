@@ -38,7 +38,8 @@ impl ScriptedFleet {
     ghost use Rattle.std.specs.Prelude.{[], length, replicate, IfOk, MatchBool};
     ghost use Rattle.std.specs.Option.{option_copied};
     ghost use Rattle.scripted.specs.Wake.{IsNext};
-    ghost use Rattle.scripted_fleet.specs.Makes.{due_of, dues, IsDue, opened_due, passed, poll_of, Waits};
+    ghost use Rattle.scripted_fleet.specs.Makes.{due_of, dues, IsDue, opened_due, passed, poll_of};
+    ghost use Rattle.scripted_fleet.specs.Makes.{Waits};
     ghost use Rattle.scripted_fleet.specs.Waiters.{first_place};
 
     /// These waiters at this moment, with these words. Nothing was asked yet.

@@ -17,6 +17,7 @@ use Rattle.value_json.specs.Names.{stop_text, stop_points}
 use Rattle.json_forms.specs.Plain.{number_at, pair_at}
 use Rattle.json_forms.specs.Reading.{◌>>=◌}
 use Rattle.value_json.specs.Readings.{payload_at}
+use Rattle.value_json.specs.Spellable.{answer_spellable, payload_spellable}
 use Rattle.scripts.specs.declared.replay.Script.{Script}
 
 -- a kind as it is printed, and an answer that fits it
@@ -54,6 +55,10 @@ script_at d = listed_at d >>= λ _. get (codes "input") d >>= payload_at >>= λ 
 -- The bytes are the text of this script.
 abbrev pub IsScript : List ℕ → Script → Type 0
 IsScript bytes s = IsUtf8 bytes × ((read bytes >>= script_at) ≡ Some s)
+
+-- JSON spells its input and each of its answers.
+abbrev pub script_spellable : Script → Bool
+script_spellable s = payload_spellable (s.head).input && list_all (λ (a : ScriptAnswer). answer_spellable a.answer) s.answers
 
 -- ---- limits
 

@@ -3,7 +3,12 @@ ghost use Rattle.std.specs.Prelude.{◌≡◌, ◌+◌, ◌<◌, None, length, n
 ghost use Rattle.std.specs.List.{list_all, list_any};
 ghost use Rattle.http_header.specs.HeaderMap.{pairs};
 ghost use Rattle.smithy_context.specs.Setting.{same_key};
-ghost use Rattle.scripts.specs.Limits.{fits_or_none, text_fits, texts_fit, bytes_fit, body_fits, header_size, head_fits, request_fits, response_fits, endpoint_header_fits, endpoint_fits, outcome_fits, change_fits, setting_fits, key_fits, layer_entry_fits, layer_fits, hook_answer_fits, chosen_fits, answer_fits, layer_keys, with_key, with_keys, layer_of_answer};
+ghost use Rattle.scripts.specs.Limits.{fits_or_none, text_fits, texts_fit, bytes_fit, body_fits};
+ghost use Rattle.scripts.specs.Limits.{header_size, head_fits, request_fits, response_fits};
+ghost use Rattle.scripts.specs.Limits.{endpoint_header_fits, endpoint_fits, outcome_fits};
+ghost use Rattle.scripts.specs.Limits.{change_fits, setting_fits, key_fits, layer_entry_fits};
+ghost use Rattle.scripts.specs.Limits.{layer_fits, hook_answer_fits, chosen_fits, answer_fits};
+ghost use Rattle.scripts.specs.Limits.{layer_keys, with_key, with_keys, layer_of_answer};
 
 use http_header::HeaderMap;
 use run_grammar::{Answer, Chosen};
@@ -303,7 +308,8 @@ pub fn add_keys(
     keys: &mut List<SettingKey>,
     answer: &Answer,
 ) -> Result<(), OutOfMemory>
-    ensures { OnOk result (keys.new ≡ with_keys keys.old (layer_keys (layer_of_answer answer.now))) }
+    ensures { OnOk result (keys.new ≡
+        with_keys keys.old (layer_keys (layer_of_answer answer.now))) }
 {
     match answer {
         Answer::Layer(layer) => add_entries(alloc, keys, layer.entries()),

@@ -1,10 +1,12 @@
 //! Scripts of `replay`.
-ghost use Rattle.std.specs.Prelude.{◌≡◌, [], nat_le, length, IfOk, IsErrOf, option_map};
+ghost use Rattle.std.specs.Prelude.{◌≡◌, [], true, nat_le, length, IfOk, IsErrOf, option_map};
 ghost use Rattle.serde_json.specs.Errors.{IsMemory};
 ghost use Rattle.serde_json.specs.View.{view, items_view, members_view};
 ghost use Rattle.json_forms.specs.Lists.{list_of};
 ghost use Rattle.json_forms.specs.Reading.{Reads};
-ghost use Rattle.scripts.specs.Replay.{script_answer_at, is_listed, members_all, listed_at, stop_at, stop_of, script_at, IsScript, answers_fit, keys_fit, is_within};
+ghost use Rattle.scripts.specs.Replay.{script_answer_at, is_listed, members_all, listed_at};
+ghost use Rattle.scripts.specs.Replay.{stop_at, stop_of, script_at, script_spellable, IsScript};
+ghost use Rattle.scripts.specs.Replay.{answers_fit, keys_fit, is_within};
 
 use crate::limits::{add_keys, answer_fits};
 use json_forms::ReadError;
@@ -34,9 +36,12 @@ pub struct Script {
     pub answers: List<ScriptAnswer>,
 }
 
-/// The script that the bytes are the text of.
+/// The script that the bytes are the text of. JSON spells its input and each of its answers, so
+/// that what is printed of them is read as the same values.
+#[tactic(auto, using(crate::proofs::SpelledScripts::reads_spelled))]
 pub fn read_script(alloc: Global, bytes: &[u8]) -> Result<Script, ReadError>
     ensures found { IfOk result (λ s. IsScript bytes.now s) }
+    ensures spellable { IfOk result (λ s. script_spellable s ≡ true) }
     ensures refused { IsErrOf result ReadError.Refused → (s : Script) → IsScript bytes.now s → ⊥ }
 {
     match Value::from_slice(alloc, bytes) {

@@ -74,9 +74,13 @@ impl<L: Ledger> Locked<L> {
         now_secs: u64,
     ) -> Option<Permit>
         requires { 0 < share.old.parts }
-        ensures book { locked_book terms.now self.new.capacity self.new.state ≡ after (Acquire kind now_secs) (locked_book terms.now self.old.capacity self.old.state) }
-        ensures reply { acquire_reply (option_map (λ p. p.amount) result) ≡ reply_to (Acquire kind now_secs) (locked_book terms.now self.old.capacity self.old.state) }
-        ensures permit { IfSome result (λ p. p ≡ record { bucket = 0; amount = cost_under kind terms.now }) }
+        ensures book { locked_book terms.now self.new.capacity self.new.state ≡
+            after (Acquire kind now_secs) (locked_book terms.now self.old.capacity self.old.state) }
+        ensures reply { acquire_reply (option_map (λ p. p.amount) result) ≡
+            reply_to (Acquire kind now_secs)
+            (locked_book terms.now self.old.capacity self.old.state) }
+        ensures permit { IfSome result
+            (λ p. p ≡ record { bucket = 0; amount = cost_under kind terms.now }) }
         ensures granted { IfSome result (λ p. share.new.amount ≡ share.old.amount + p.amount) }
         ensures refused { IfNone result (share.new.amount ≡ share.old.amount) }
         ensures parts { share.new.parts ≡ share.old.parts }
@@ -101,7 +105,8 @@ impl<L: Ledger> Locked<L> {
 
     pub fn release(&mut self, share: &mut Share<L>, terms: &BucketTerms, permit: Permit)
         requires { permit.amount ≤ share.old.amount }
-        ensures book { locked_book terms.now self.new.capacity self.new.state ≡ after (Release permit.amount) (locked_book terms.now self.old.capacity self.old.state) }
+        ensures book { locked_book terms.now self.new.capacity self.new.state ≡
+            after (Release permit.amount) (locked_book terms.now self.old.capacity self.old.state) }
         ensures amount { share.new.amount + permit.amount ≡ share.old.amount }
         ensures parts { share.new.parts ≡ share.old.parts }
     {
@@ -122,7 +127,8 @@ impl<L: Ledger> Locked<L> {
 
     pub fn forget(&mut self, share: &mut Share<L>, terms: &BucketTerms, permit: Permit)
         requires { permit.amount ≤ share.old.amount }
-        ensures book { locked_book terms.now self.new.capacity self.new.state ≡ after (Forget permit.amount) (locked_book terms.now self.old.capacity self.old.state) }
+        ensures book { locked_book terms.now self.new.capacity self.new.state ≡
+            after (Forget permit.amount) (locked_book terms.now self.old.capacity self.old.state) }
         ensures amount { share.new.amount + permit.amount ≡ share.old.amount }
         ensures parts { share.new.parts ≡ share.old.parts }
     {
@@ -142,7 +148,8 @@ impl<L: Ledger> Locked<L> {
     }
 
     pub fn reward_success(&mut self, terms: &BucketTerms)
-        ensures { locked_book terms.now self.new.capacity self.new.state ≡ after Reward (locked_book terms.now self.old.capacity self.old.state) }
+        ensures { locked_book terms.now self.new.capacity self.new.state ≡
+            after Reward (locked_book terms.now self.old.capacity self.old.state) }
     {
         let mut bucket = taken(terms, self.capacity, &self.state);
         bucket.reward_success();
@@ -151,7 +158,8 @@ impl<L: Ledger> Locked<L> {
     }
 
     pub fn regenerate_a_token(&mut self, terms: &BucketTerms)
-        ensures { locked_book terms.now self.new.capacity self.new.state ≡ after Regenerate (locked_book terms.now self.old.capacity self.old.state) }
+        ensures { locked_book terms.now self.new.capacity self.new.state ≡
+            after Regenerate (locked_book terms.now self.old.capacity self.old.state) }
     {
         let mut bucket = taken(terms, self.capacity, &self.state);
         steps::regenerate_a_token(&mut bucket);
@@ -160,7 +168,8 @@ impl<L: Ledger> Locked<L> {
     }
 
     pub fn is_full(&mut self, terms: &BucketTerms) -> bool
-        ensures book { locked_book terms.now self.new.capacity self.new.state ≡ after Convert (locked_book terms.now self.old.capacity self.old.state) }
+        ensures book { locked_book terms.now self.new.capacity self.new.state ≡
+            after Convert (locked_book terms.now self.old.capacity self.old.state) }
         ensures full { result ≡ is_full (locked_book terms.now self.new.capacity self.new.state) }
     {
         let mut bucket = taken(terms, self.capacity, &self.state);
@@ -170,7 +179,8 @@ impl<L: Ledger> Locked<L> {
     }
 
     pub fn is_empty(&mut self, terms: &BucketTerms) -> bool
-        ensures book { locked_book terms.now self.new.capacity self.new.state ≡ after Convert (locked_book terms.now self.old.capacity self.old.state) }
+        ensures book { locked_book terms.now self.new.capacity self.new.state ≡
+            after Convert (locked_book terms.now self.old.capacity self.old.state) }
         ensures empty { result ≡ is_empty (locked_book terms.now self.new.capacity self.new.state) }
     {
         let mut bucket = taken(terms, self.capacity, &self.state);
@@ -181,8 +191,10 @@ impl<L: Ledger> Locked<L> {
 
     // With all shares in one, what is held is that share's amount.
     pub fn sums(&mut self, share: &mut Share<L>) -> Sums
-        ensures sums { (terms : _) → result ≡ sums_of (locked_book terms self.old.capacity self.old.state) }
-        ensures balanced { result.available + result.held + result.forgotten ≡ result.capacity + result.granted }
+        ensures sums { (terms : _) →
+            result ≡ sums_of (locked_book terms self.old.capacity self.old.state) }
+        ensures balanced { result.available + result.held + result.forgotten ≡ result.capacity
+            + result.granted }
         ensures whole { share.old.parts ≡ L.parts → AreWhole share.old.amount result }
         ensures bound { share.old.amount ≤ result.held }
         ensures fits { result.held < 2 ^ 64 }

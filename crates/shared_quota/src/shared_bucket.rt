@@ -1,5 +1,6 @@
 //! A handle on a bucket behind a lock.
-ghost use Rattle.std.specs.Prelude.{◌≡◌, ◌+◌, ◌<◌, ◌≤◌, if◌then◌else◌, nat_le, ◌-◌, IfOk, IfSome, OnErr};
+ghost use Rattle.std.specs.Prelude.{◌≡◌, ◌+◌, ◌<◌, ◌≤◌, if◌then◌else◌, nat_le, ◌-◌, IfOk, IfSome};
+ghost use Rattle.std.specs.Prelude.{OnErr};
 ghost use Rattle.std.specs.Option.{IfNone};
 ghost use Rattle.retry_quota.specs.State.{cost_under, terms_in};
 ghost use Rattle.shared_quota.specs.Stake.{less, AreWhole};
@@ -45,7 +46,8 @@ impl<L: Ledger> SharedBucket<L> {
         requires name { blank.name ≡ L.name }
         requires parts { blank.parts ≡ L.parts }
         requires some { 0 < blank.parts }
-        ensures { IfOk result (λ h. h ≡ record { parts = L.parts; amount = bucket.held; terms = terms_in bucket }) }
+        ensures { IfOk result (λ h. h ≡
+            record { parts = L.parts; amount = bucket.held; terms = terms_in bucket }) }
     {
         let (mut tokens, mut share) = blank.open::<L>();
         let terms = bucket.terms();
@@ -71,7 +73,8 @@ impl<L: Ledger> SharedBucket<L> {
     /// A second handle, with one part and no amount.
     pub fn split(&mut self, _alloc: Global) -> Result<SharedBucket<L>, OutOfMemory>
         requires { 2 ≤ self.old.parts }
-        ensures other { IfOk result (λ h. h ≡ record { parts = 1; amount = 0; terms = self.old.terms }) }
+        ensures other { IfOk result (λ h. h ≡
+            record { parts = 1; amount = 0; terms = self.old.terms }) }
         ensures ok { IfOk result (λ _. self.new ≡ record self.old { parts = self.old.parts - 1 }) }
         ensures err { OnErr result (self.new ≡ self.old) }
     {
@@ -87,7 +90,8 @@ impl<L: Ledger> SharedBucket<L> {
 
     /// Both handles in one. It takes the lock to know that the amounts together fit.
     pub fn join<R: Wait>(&mut self, rt: &R, other: SharedBucket<L>)
-        ensures { self.new ≡ record self.old { parts = self.old.parts + other.parts; amount = self.old.amount + other.amount } }
+        ensures { self.new ≡ record self.old
+            { parts = self.old.parts + other.parts; amount = self.old.amount + other.amount } }
     {
         let SharedBucket {
             locked: _,
@@ -103,8 +107,10 @@ impl<L: Ledger> SharedBucket<L> {
     /// Pays for a retry after a failure of this kind, at this second. The share's amount rises by
     /// the permit. The permit's bucket is 0.
     pub fn acquire<R: Wait>(&mut self, rt: &R, kind: ErrorKind, now_secs: u64) -> Option<Permit>
-        ensures permit { IfSome result (λ p. p ≡ record { bucket = 0; amount = cost_under kind self.old.terms }) }
-        ensures granted { IfSome result (λ p. self.new ≡ record self.old { amount = self.old.amount + p.amount }) }
+        ensures permit { IfSome result
+            (λ p. p ≡ record { bucket = 0; amount = cost_under kind self.old.terms }) }
+        ensures granted { IfSome result
+            (λ p. self.new ≡ record self.old { amount = self.old.amount + p.amount }) }
         ensures refused { IfNone result (self.new ≡ self.old) }
     {
         let permit = self
@@ -177,7 +183,8 @@ impl<L: Ledger> SharedBucket<L> {
 
     /// The five sums. A handle with all parts of the ledger reads its own amount as what is held.
     pub fn sums<R: Wait>(&mut self, rt: &R) -> Sums
-        ensures balanced { result.available + result.held + result.forgotten ≡ result.capacity + result.granted }
+        ensures balanced { result.available + result.held + result.forgotten ≡ result.capacity
+            + result.granted }
         ensures whole { self.old.parts ≡ L.parts → AreWhole self.old.amount result }
         ensures bound { self.old.amount ≤ result.held }
         ensures same { self.new ≡ self.old }

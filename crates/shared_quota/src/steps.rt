@@ -19,8 +19,10 @@ use smithy_types::ErrorKind;
 
 pub fn acquire(bucket: &mut TokenBucket, kind: ErrorKind, now_secs: u64) -> Option<Permit>
     ensures book { bucket.new ≡ after (Acquire kind now_secs) bucket.old }
-    ensures reply { acquire_reply (option_map (λ p. p.amount) result) ≡ reply_to (Acquire kind now_secs) bucket.old }
-    ensures permit { IfSome result (λ p. p ≡ record { bucket = 0; amount = cost_of kind bucket.old }) }
+    ensures reply { acquire_reply (option_map (λ p. p.amount) result) ≡
+        reply_to (Acquire kind now_secs) bucket.old }
+    ensures permit { IfSome result
+        (λ p. p ≡ record { bucket = 0; amount = cost_of kind bucket.old }) }
     ensures granted { IfSome result (λ p. bucket.new.held ≡ bucket.old.held + p.amount) }
     ensures refused { IfNone result (bucket.new.held ≡ bucket.old.held) }
 {

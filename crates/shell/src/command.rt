@@ -22,6 +22,7 @@ pub trait Command {
     /// What it may say to these bytes: a print, or that they are no script or pass a limit.
     ghost says: { Self → List ℕ → Said → Type 0 };
 
+    /// What the command says to these bytes.
     fn answer(&self, alloc: Global, bytes: &[u8]) -> Result<Answer, AllocError>
         ensures { IfOk result (λ a. says self.now bytes.now (said a)) };
 }
@@ -33,6 +34,7 @@ pub trait Telling {
     /// What it may say.
     ghost tells: { Self → Said → Type 0 };
 
+    /// What the command says.
     fn tell(&self, alloc: Global) -> Result<Answer, AllocError>
         ensures { IfOk result (λ a. tells self.now (said a)) };
 }

@@ -8,6 +8,7 @@ use crate::sink::Sink;
 pub trait Settled: Command {
     ghost use Rattle.shell.specs.Determined.{IsFunctional};
 
+    /// It says one thing at most.
     ghost one_says: { (command : Self) → IsFunctional (Self.says command) };
 }
 

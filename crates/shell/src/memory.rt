@@ -1,9 +1,12 @@
-//! Sources and sinks in memory: those that never fail, and those whose calls fail where a list says.
-ghost use Rattle.std.specs.Prelude.{◌≡◌, ◌≢◌, ◌+◌, ◌≤◌, ◌<◌, ◌⊎◌, [], true, false, drop, length, vec_len, vec_capacity, IfOk};
+//! Sources and sinks in memory: those that never fail, and those whose calls fail where a list
+//! says.
+ghost use Rattle.std.specs.Prelude.{◌≡◌, ◌≢◌, ◌+◌, ◌≤◌, ◌<◌, ◌⊎◌, [], true, false, drop, length};
+ghost use Rattle.std.specs.Prelude.{vec_len, vec_capacity, IfOk};
 ghost use Rattle.std.specs.Io.Cursor.{cursor_inner, cursor_position};
 ghost use Rattle.shell.specs.Source.{Reads};
 ghost use Rattle.shell.specs.Sink.{Writes};
-ghost use Rattle.shell.specs.Memory.{is_listed, sure_source_view, source_view, sink_view, sure_view};
+ghost use Rattle.shell.specs.Memory.{is_listed, sure_source_view, source_view, sink_view};
+ghost use Rattle.shell.specs.Memory.{sure_view};
 
 use crate::sink::{Sink, Wrote};
 use crate::source::{Got, Source};
@@ -43,7 +46,8 @@ impl Source for SureSource {
 
     fn read(&mut self, buffer: &mut [u8]) -> Got
         requires { 0 < length buffer.old }
-        ensures reads { Reads (sure_source_view self.old) result buffer.new (sure_source_view self.new) }
+        ensures reads { Reads (sure_source_view self.old) result buffer.new
+            (sure_source_view self.new) }
         ensures sure { result ≢ Got.Failed }
     {
         match self.bytes.read(buffer) {
@@ -94,8 +98,10 @@ impl Source for MemorySource {
     fn read(&mut self, buffer: &mut [u8]) -> Got
         requires { 0 < length buffer.old }
         ensures reads { Reads (source_view self.old) result buffer.new (source_view self.new) }
-        ensures listed { is_listed self.old.calls self.old.failing.items ≡ true → result ≡ Got.Failed }
-        ensures failed { result ≡ Got.Failed → is_listed self.old.calls self.old.failing.items ≡ true }
+        ensures listed { is_listed self.old.calls self.old.failing.items ≡ true →
+            result ≡ Got.Failed }
+        ensures failed { result ≡ Got.Failed →
+            is_listed self.old.calls self.old.failing.items ≡ true }
         ensures failing { self.new.failing ≡ self.old.failing }
     {
         let call = self.calls;
@@ -151,8 +157,11 @@ impl Sink for MemorySink {
     fn write(&mut self, piece: &[u8]) -> Wrote
         requires { 0 < length piece.now }
         ensures writes { Writes (sink_view self.old) result piece.now (sink_view self.new) }
-        ensures listed { is_listed self.old.calls self.old.failing.items ≡ true → result ≡ Wrote.Failed }
-        ensures failed { result ≡ Wrote.Failed → (is_listed self.old.calls self.old.failing.items ≡ true) ⊎ (vec_capacity self.old.bytes < vec_len self.old.bytes + length piece.now) }
+        ensures listed { is_listed self.old.calls self.old.failing.items ≡ true →
+            result ≡ Wrote.Failed }
+        ensures failed { result ≡ Wrote.Failed →
+            (is_listed self.old.calls self.old.failing.items ≡ true)
+            ⊎ (vec_capacity self.old.bytes < vec_len self.old.bytes + length piece.now) }
         ensures failing { self.new.failing ≡ self.old.failing }
     {
         let number = self.calls;
@@ -215,7 +224,8 @@ impl Sink for SureSink {
         requires { 0 < length piece.now }
         ensures writes { Writes (sure_view self.old) result piece.now (sure_view self.new) }
         ensures taken { result ≡ Wrote.Took (length piece.now) }
-        ensures room { vec_len self.old.bytes + length piece.now ≤ vec_capacity self.old.bytes → self.new.is_lost ≡ self.old.is_lost }
+        ensures room { vec_len self.old.bytes + length piece.now ≤ vec_capacity self.old.bytes →
+            self.new.is_lost ≡ self.old.is_lost }
         ensures capacity { vec_capacity self.old.bytes ≤ vec_capacity self.new.bytes }
     {
         if self.bytes.extend_from_slice(piece).is_err() {

@@ -16,7 +16,8 @@ pub fn serve<C: Command, S: Source, K: Sink>(
     source: &mut S,
     sink: &mut K,
 ) -> Ended
-    ensures served { Served K.view (C.says command.now) result (S.view source.old) (S.view source.new) sink.old sink.new }
+    ensures served { Served K.view (C.says command.now) result (S.view source.old)
+        (S.view source.new) sink.old sink.new }
     ensures source_count { (S.view source.old).faults ≤ (S.view source.new).faults }
     ensures sink_count { (K.view sink.old).faults ≤ (K.view sink.new).faults }
 {

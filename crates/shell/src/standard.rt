@@ -60,7 +60,11 @@ impl<W> StdSink<W> {
 impl<W: Write> Sink for StdSink<W> {
     ghost use Rattle.std.specs.Prelude.{false};
 
-    ghost view = { λ s. record { written = W.contents s.writer; is_lost = false; faults = s.errors } };
+    ghost view = { λ s. record {
+      written = W.contents s.writer;
+      is_lost = false;
+      faults = s.errors;
+    } };
 
     fn write(&mut self, piece: &[u8]) -> Wrote {
         match self.writer.write(piece) {

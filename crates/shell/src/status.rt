@@ -1,6 +1,7 @@
 //! How the program ends.
 ghost use Rattle.std.specs.Prelude.{◌≡◌};
-ghost use Rattle.shell.specs.Status.{number_of, status_of, printed_status, refused_status, shell_status};
+ghost use Rattle.shell.specs.Status.{number_of, status_of, printed_status, refused_status};
+ghost use Rattle.shell.specs.Status.{shell_status};
 
 /// How the program ended. Its number is the exit status.
 #[derive(Clone, Copy, Debug, PartialEq, Eq)]

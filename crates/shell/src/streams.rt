@@ -1,5 +1,6 @@
 //! Reading all of a source, and writing all of a text.
-ghost use Rattle.std.specs.Prelude.{◌≡◌, ◌⊎◌, ◌+◌, ◌<◌, ◌≤◌, ◌++◌, [], true, false, length, vec_len, IfOk, IfErr, OnOk, OnErr};
+ghost use Rattle.std.specs.Prelude.{◌≡◌, ◌⊎◌, ◌+◌, ◌<◌, ◌≤◌, ◌++◌, [], true, false, length};
+ghost use Rattle.std.specs.Prelude.{vec_len, IfOk, IfErr, OnOk, OnErr};
 ghost use Rattle.std.specs.Io.KnownBytes.{Consumes, IsAtEnd};
 ghost use Rattle.shell.specs.Source.{Rose};
 ghost use Rattle.shell.specs.Sink.{Adds, AddsFront};
@@ -62,12 +63,16 @@ fn read_piece<S: Source>(
 ) -> Result<bool, ShellStatus>
     requires buffer { 0 < length buffer.old }
     requires room { vec_len bytes.old + length buffer.old ≤ INPUT_LIMIT + 1 }
-    ensures grown { result ≡ Ok true → Grown (S.view source.old) bytes.old.items (S.view source.new) bytes.new.items }
+    ensures grown { result ≡ Ok true →
+        Grown (S.view source.old) bytes.old.items (S.view source.new) bytes.new.items }
     ensures longer { result ≡ Ok true → vec_len bytes.old < vec_len bytes.new }
     ensures within { OnOk result (vec_len bytes.new ≤ INPUT_LIMIT + 1) }
     ensures ended { result ≡ Ok false → NoneLeft (S.view source.old) (S.view source.new) }
     ensures same { result ≡ Ok false → bytes.new ≡ bytes.old }
-    ensures unread { IfErr result (λ e. (e ≡ ShellStatus.OutOfMemory) ⊎ ((e ≡ ShellStatus.ReadFault) × Rose (S.view source.old).faults (S.view source.new).faults)) }
+    ensures unread { IfErr result
+        (λ e. (e ≡ ShellStatus.OutOfMemory)
+        ⊎ ((e ≡ ShellStatus.ReadFault)
+        × Rose (S.view source.old).faults (S.view source.new).faults)) }
     ensures count { (S.view source.old).faults ≤ (S.view source.new).faults }
 {
     match source.read(buffer) {

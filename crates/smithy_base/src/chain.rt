@@ -1,6 +1,7 @@
 //! Chains of interceptors.
 ghost use Rattle.std.specs.Prelude.{◌≡◌, ◌&&◌, not, List, ◌⊎◌, IfOk, OnOk, OnErr};
-ghost use Rattle.smithy_base.specs.Chain.{is_disabled, is_run, stands_in, Turn, RunsChain, RunsInPart};
+ghost use Rattle.smithy_base.specs.Chain.{is_disabled, is_run, stands_in, Turn, RunsChain};
+ghost use Rattle.smithy_base.specs.Chain.{RunsInPart};
 ghost use Rattle.smithy_base.specs.Walk.{all_noted};
 ghost use Rattle.smithy_context.specs.declared.intercept.HookAnswer.{HookAnswer};
 
@@ -22,8 +23,12 @@ pub fn run_chain<T: Intercept>(
     hook: Hook,
     view: &HookView,
 ) -> Result<HookAnswer, OutOfMemory>
-    ensures ok { IfOk result (λ answer. RunsChain ⟦<Slot<T> as Intercept>⟧.names ⟦<Slot<T> as Intercept>⟧.hooks ⟦<Slot<T> as Intercept>⟧.runs hook view.now chain.old answer chain.new) }
-    ensures err { OnErr result (RunsInPart ⟦<Slot<T> as Intercept>⟧.names ⟦<Slot<T> as Intercept>⟧.hooks ⟦<Slot<T> as Intercept>⟧.runs hook view.now chain.old chain.new) }
+    ensures ok { IfOk result (λ answer. RunsChain ⟦<Slot<T> as Intercept>⟧.names
+        ⟦<Slot<T> as Intercept>⟧.hooks ⟦<Slot<T> as Intercept>⟧.runs hook view.now chain.old answer
+        chain.new) }
+    ensures err { OnErr result (RunsInPart ⟦<Slot<T> as Intercept>⟧.names
+        ⟦<Slot<T> as Intercept>⟧.hooks ⟦<Slot<T> as Intercept>⟧.runs hook view.now chain.old
+        chain.new) }
 {
     run_each(alloc, chain, hook, view)
 }
@@ -35,8 +40,10 @@ pub fn run_each<I: Intercept>(
     hook: Hook,
     view: &HookView,
 ) -> Result<HookAnswer, OutOfMemory>
-    ensures ok { IfOk result (λ answer. RunsChain I.names I.hooks I.runs hook view.now chain.old answer chain.new) }
-    ensures err { OnErr result (RunsInPart I.names I.hooks I.runs hook view.now chain.old chain.new) }
+    ensures ok { IfOk result (λ answer. RunsChain I.names I.hooks I.runs hook view.now chain.old
+        answer chain.new) }
+    ensures err { OnErr result (RunsInPart I.names I.hooks I.runs hook view.now chain.old
+        chain.new) }
 {
     let mut walk = Walk::begin(view.clone()?);
     for i in 0..chain.len() {
@@ -52,8 +59,12 @@ fn take_turn<I: Intercept>(
     hook: Hook,
     walk: &mut Walk,
 ) -> Result<(), OutOfMemory>
-    ensures ok { OnOk result ((given : List HookAnswer) × Turn I.names I.hooks I.runs hook walk.old.view one.old given one.new × (walk.new ≡ all_noted hook walk.old given)) }
-    ensures err { OnErr result ((one.new ≡ one.old) ⊎ ((given : List HookAnswer) × Turn I.names I.hooks I.runs hook walk.old.view one.old given one.new)) }
+    ensures ok { OnOk result ((given : List HookAnswer)
+        × Turn I.names I.hooks I.runs hook walk.old.view one.old given one.new
+        × (walk.new ≡ all_noted hook walk.old given)) }
+    ensures err { OnErr result ((one.new ≡ one.old)
+        ⊎ ((given : List HookAnswer)
+        × Turn I.names I.hooks I.runs hook walk.old.view one.old given one.new)) }
 {
     if !is_run(one, hook, &walk.view) {
         return Ok(());

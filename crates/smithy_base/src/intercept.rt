@@ -38,7 +38,9 @@ pub trait Intercept: Drop {
 /// An interceptor of a chain: a box that the caller brings, or one of a known type.
 #[derive(Drop)]
 pub enum Slot<T: Intercept> {
+    /// A box that the caller brings.
     Boxed(Box<dyn Intercept>),
+    /// One of the known type.
     Own(T),
 }
 
@@ -61,7 +63,8 @@ fn run_box(
     hook: Hook,
     view: &HookView,
 ) -> Result<HookAnswer, OutOfMemory>
-    ensures ok { IfOk result (λ answer. (v : _) × (boxed.new ≡ record boxed.old { value = v }) × (Intercept-box boxed.old).runs boxed.old.value hook view.now answer v) }
+    ensures ok { IfOk result (λ answer. (v : _) × (boxed.new ≡ record boxed.old { value = v })
+        × (Intercept-box boxed.old).runs boxed.old.value hook view.now answer v) }
     ensures err { OnErr result (boxed.new ≡ boxed.old) }
 {
     let inner = boxed.as_mut();
@@ -83,7 +86,8 @@ impl<T: Intercept> Intercept for Slot<T> {
     ] };
 
     ghost runs = { λ old hook view answer new. elim old [
-      | Boxed b ↦ (v : _) × (new ≡ Boxed (record b { value = v })) × (Intercept-box b).runs b.value hook view answer v
+      | Boxed b ↦ (v : _) × (new ≡ Boxed (record b { value = v }))
+          × (Intercept-box b).runs b.value hook view answer v
       | Own t ↦ (u : _) × (new ≡ Own u) × T.runs t hook view answer u
     ] };
 

@@ -1,4 +1,5 @@
-//! What every client stands on: the plain types of a run, its settings and context, and interceptors.
+//! What every client stands on: the plain types of a run, its settings and context, and
+//! interceptors.
 #![tactic(auto)]
 
 pub mod chain;

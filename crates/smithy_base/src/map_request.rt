@@ -42,7 +42,10 @@ impl<F: MapRequest> Intercept for MapRequestInterceptor<F> {
 
     ghost hooks = { λ _ hook. is_before_signing hook };
 
-    ghost runs = { λ old hook view answer new. (new ≡ old) × AnswersBeforeSigning (λ request a. (given : Result HttpRequest (List ℕ)) × F.maps old.f request given × (a ≡ mapped given)) (is_before_signing hook) view.request answer };
+    ghost runs = { λ old hook view answer new. (new ≡ old)
+        × AnswersBeforeSigning (λ request a. (given : Result HttpRequest (List ℕ))
+        × F.maps old.f request given × (a ≡ mapped given)) (is_before_signing hook) view.request
+        answer };
 
     fn name(&self) -> &str {
         "MapRequestInterceptor"

@@ -33,13 +33,16 @@ impl<F: MutateRequest> fmt::Debug for MutateRequestInterceptor<F> {
 impl<F: MutateRequest> Intercept for MutateRequestInterceptor<F> {
     ghost use Rattle.std.specs.Prelude.{◌≡◌, codes};
     ghost use Rattle.smithy_types.specs.declared.http.HttpRequest.{HttpRequest};
-    ghost use Rattle.smithy_base.specs.Requests.{is_before_signing, writes_request, AnswersBeforeSigning};
+    ghost use Rattle.smithy_base.specs.Requests.{is_before_signing, writes_request};
+    ghost use Rattle.smithy_base.specs.Requests.{AnswersBeforeSigning};
 
     ghost names = { λ _. codes "MutateRequestInterceptor" };
 
     ghost hooks = { λ _ hook. is_before_signing hook };
 
-    ghost runs = { λ old hook view answer new. (new ≡ old) × AnswersBeforeSigning (λ request a. (left : HttpRequest) × F.mutates old.f request left × (a ≡ writes_request left)) (is_before_signing hook) view.request answer };
+    ghost runs = { λ old hook view answer new. (new ≡ old)
+        × AnswersBeforeSigning (λ request a. (left : HttpRequest) × F.mutates old.f request left
+        × (a ≡ writes_request left)) (is_before_signing hook) view.request answer };
 
     fn name(&self) -> &str {
         "MutateRequestInterceptor"

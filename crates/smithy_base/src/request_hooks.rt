@@ -1,6 +1,7 @@
 //! What the interceptors on requests answer.
 ghost use Rattle.std.specs.Prelude.{◌≡◌, IfOk};
-ghost use Rattle.smithy_base.specs.Requests.{is_before_signing, writes_request, taken_request, mapped};
+ghost use Rattle.smithy_base.specs.Requests.{is_before_signing, writes_request, taken_request};
+ghost use Rattle.smithy_base.specs.Requests.{mapped};
 
 use smithy_context::{Change, HookAnswer, Layer};
 use smithy_types::{Body, Headers, Hook, HttpRequest, OutOfMemory, Shared, Text};

@@ -51,7 +51,8 @@ impl<'a> Resolver<'a> {
         ensures same_components { result.components.ghost_name ≡ components.entry.ghost_name }
         ensures config { result.config.now ≡ config.old }
         ensures components { result.components.now ≡ components.old }
-        ensures initial { result.initial ≡ Some (record { config = initial_config; components = initial_components.now }) }
+        ensures initial { result.initial ≡
+            Some (record { config = initial_config; components = initial_components.now }) }
     {
         Resolver {
             initial: Some(InitialConfig {
@@ -95,14 +96,17 @@ impl<'a> Resolver<'a> {
 
     /// Whether the latest or the initial settings have a value for the key.
     pub fn is_set(&self, key: &SettingKey) -> bool
-        ensures { result ≡ (is_some (value_in self.now.config.now key.now) || is_some (initial_value self.now.initial key.now)) }
+        ensures { result ≡ (is_some (value_in self.now.config.now key.now)
+            || is_some (initial_value self.now.initial key.now)) }
     {
         self.is_latest_set(key) || self.initial_value(key).is_some()
     }
 
     /// The latest value of the key, else the initial one.
     pub fn resolve_config(&self, key: &SettingKey) -> Option<&Setting>
-        ensures { option_copied result ≡ or_else (value_in self.now.config.now key.now) (initial_value self.now.initial key.now) }
+        ensures { option_copied result ≡
+            or_else (value_in self.now.config.now key.now)
+            (initial_value self.now.initial key.now) }
     {
         match self.config.load(key) {
             Some(setting) => Some(setting),

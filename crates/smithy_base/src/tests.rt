@@ -51,14 +51,14 @@ fn fails_with(name: &'static str, text: &'static str) -> Slot<Failing> {
     })
 }
 
-fn view_of(settings: Settings, request: Option<Shared<HttpRequest>>) -> HookView {
+fn first_attempt() -> HookView {
     HookView {
         input: None,
-        request,
+        request: None,
         response: None,
         outcome: None,
         attempt: 1,
-        settings,
+        settings: Settings::new(),
     }
 }
 
@@ -67,9 +67,9 @@ fn disabling(alloc: Global, name: &'static str) -> Result<HookView, OutOfMemory>
     names.push(alloc, Text::from_static(name))?;
     let mut layer = Layer::new();
     layer.put(alloc, Setting::Disable(names))?;
-    let mut settings = Settings::new();
-    settings.merge(alloc, &layer)?;
-    Ok(view_of(settings, None))
+    let mut view = first_attempt();
+    view.settings.merge(alloc, &layer)?;
+    Ok(view)
 }
 
 fn posting(alloc: Global) -> Result<HookView, OutOfMemory> {
@@ -79,8 +79,9 @@ fn posting(alloc: Global) -> Result<HookView, OutOfMemory> {
         headers: Headers::new(),
         body: Body::Bytes(Blob::new()),
     };
-    let request = Shared::new(alloc, request)?;
-    Ok(view_of(Settings::new(), Some(request)))
+    let mut view = first_attempt();
+    view.request = Some(Shared::new(alloc, request)?);
+    Ok(view)
 }
 
 fn failure(
@@ -103,7 +104,7 @@ fn written(alloc: Global, answer: &HookAnswer) -> Result<String, Fail> {
 fn the_last_failure_of_those_that_run_is_answered(rt: HostRuntime) -> Result<(), Fail> {
     let alloc = rt.alloc();
     let mut chain = vec![in alloc; fails_with("First", "a"), fails_with("Second", "b")]?;
-    let all = failure(alloc, chain.as_mut_slice(), &view_of(Settings::new(), None))?;
+    let all = failure(alloc, chain.as_mut_slice(), &first_attempt())?;
     assert_eq!(rt; all, Some(Text::from_static("b")));
     let first = failure(alloc, chain.as_mut_slice(), &disabling(alloc, "Second")?)?;
     assert_eq!(rt; first, Some(Text::from_static("a")));
@@ -114,7 +115,7 @@ fn the_last_failure_of_those_that_run_is_answered(rt: HostRuntime) -> Result<(),
 fn a_disabled_interceptor_does_not_fail(rt: HostRuntime) -> Result<(), Fail> {
     let alloc = rt.alloc();
     let mut chain = vec![in alloc; fails_with("Only", "boom")]?;
-    let run = failure(alloc, chain.as_mut_slice(), &view_of(Settings::new(), None))?;
+    let run = failure(alloc, chain.as_mut_slice(), &first_attempt())?;
     assert_eq!(rt; run, Some(Text::from_static("boom")));
     let disabled = failure(alloc, chain.as_mut_slice(), &disabling(alloc, "Only")?)?;
     assert_eq!(rt; disabled, None);

@@ -56,7 +56,8 @@ impl Walk {
 
     fn note_change(&mut self, change: Option<Change>) -> Result<(), OutOfMemory>
         ensures view { OnOk result (self.new.view ≡ with_change self.old.view change) }
-        ensures change { OnOk result (self.new.answer.change ≡ or_else change self.old.answer.change) }
+        ensures change { OnOk result
+            (self.new.answer.change ≡ or_else change self.old.answer.change) }
         ensures settings { OnOk result (self.new.answer.settings ≡ self.old.answer.settings) }
         ensures failure { OnOk result (self.new.answer.failure ≡ self.old.answer.failure) }
     {

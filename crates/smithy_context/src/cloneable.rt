@@ -1,5 +1,6 @@
 //! A layer that is still written, and can be copied.
-ghost use Rattle.std.specs.Prelude.{◌≡◌, [], OnOk, OnErr, option_and_then, option_copied, Some, None};
+ghost use Rattle.std.specs.Prelude.{◌≡◌, [], OnOk, OnErr, option_and_then, option_copied, Some};
+ghost use Rattle.std.specs.Prelude.{None};
 ghost use Rattle.smithy_context.specs.Setting.{key_of};
 ghost use Rattle.smithy_context.specs.Layer.{mentioned, put_entry, entry};
 
@@ -36,7 +37,8 @@ impl CloneableLayer {
 
     /// Gives the setting's key this value. Other keys stay as they are.
     pub fn put(&mut self, alloc: Global, setting: Setting) -> Result<(), OutOfMemory>
-        ensures ok { OnOk result (self.new ≡ put_entry self.old (entry (key_of setting) (Some setting))) }
+        ensures ok { OnOk result (self.new ≡
+            put_entry self.old (entry (key_of setting) (Some setting))) }
         ensures err { OnErr result (self.new ≡ self.old) }
     {
         self.layer.put(alloc, setting)

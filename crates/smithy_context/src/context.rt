@@ -1,7 +1,9 @@
 //! The context of a run that interceptors and retry classifiers read.
 ghost use Rattle.std.specs.Prelude.{◌≡◌, Some, None, IfOk, OnOk, OnErr, option_copied, IsTrue};
-ghost use Rattle.smithy_context.specs.Failures.{sdk_error_of, modelled_error, is_building, is_failure};
-ghost use Rattle.smithy_context.specs.Context.{view_of, failed_with, checkpointed, restored, Rewinds, opened};
+ghost use Rattle.smithy_context.specs.Failures.{sdk_error_of, modelled_error, is_building};
+ghost use Rattle.smithy_context.specs.Failures.{is_failure};
+ghost use Rattle.smithy_context.specs.Context.{view_of, failed_with, checkpointed, restored};
+ghost use Rattle.smithy_context.specs.Context.{Rewinds, opened};
 
 use crate::{HookView, Settings};
 use smithy_types::{

@@ -1,5 +1,6 @@
 //! What a key holds after a change. Each law is the contract of a function without a body.
-ghost use Rattle.smithy_context.specs.Looking.{PutsOne, KeepsKeysOnce, MergesOver, MergedComesFirst, PushedComesSecond};
+ghost use Rattle.smithy_context.specs.Looking.{PutsOne, KeepsKeysOnce, MergesOver};
+ghost use Rattle.smithy_context.specs.Looking.{MergedComesFirst, PushedComesSecond};
 
 /// A put gives its key the entry, and leaves every other key. An unset is the put of the mark.
 #[tactic(auto, using(crate::proofs::LookingLemmas::puts_one))]

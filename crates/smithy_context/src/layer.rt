@@ -1,7 +1,10 @@
 //! Layers of settings.
-ghost use Rattle.std.specs.Prelude.{◌≡◌, [], ◌==◌, true, length, IfSome, ◌<◌, IfOk, OnOk, OnErr, option_and_then, option_map, option_copied, Some, None, find, position};
+ghost use Rattle.std.specs.Prelude.{◌≡◌, [], ◌==◌, true, length, IfSome, ◌<◌, IfOk, OnOk, OnErr};
+ghost use Rattle.std.specs.Prelude.{option_and_then, option_map, option_copied, Some, None, find};
+ghost use Rattle.std.specs.Prelude.{position};
 ghost use Rattle.smithy_context.specs.Setting.{same_key, key_of};
-ghost use Rattle.smithy_context.specs.Layer.{mentioned, put_entry, entry, entry_at, is_at, keys_once, merged};
+ghost use Rattle.smithy_context.specs.Layer.{mentioned, put_entry, entry, entry_at, is_at};
+ghost use Rattle.smithy_context.specs.Layer.{keys_once, merged};
 
 use crate::{Setting, SettingKey};
 use smithy_types::{List, OutOfMemory, Shared};
@@ -89,7 +92,8 @@ impl Layer {
 
     /// Gives the setting's key this value. Other keys stay as they are.
     pub fn put(&mut self, alloc: Global, setting: Setting) -> Result<(), OutOfMemory>
-        ensures ok { OnOk result (self.new ≡ put_entry self.old (entry (key_of setting) (Some setting))) }
+        ensures ok { OnOk result (self.new ≡
+            put_entry self.old (entry (key_of setting) (Some setting))) }
         ensures err { OnErr result (self.new ≡ self.old) }
     {
         let key = setting.key()?;

@@ -50,22 +50,39 @@ pub enum Setting {
 /// What a setting is known by.
 #[derive(Debug, Drop)]
 pub enum SettingKey {
+    /// Of the deadlines.
     Timeouts,
+    /// Of how the operation is retried.
     Retry,
+    /// Of whether streams that stall are given up.
     Stall,
+    /// Of whether the request's body is loaded into memory.
     LoadBody,
+    /// Of whom the retry quota is shared with.
     Partition,
+    /// Of the bucket's number.
     Bucket,
+    /// Of what stands before the endpoint's host.
     Prefix,
+    /// Of the order in which auth schemes are preferred.
     Preference,
+    /// Of the mark that the endpoint is resolved after the auth scheme was chosen.
     V2,
+    /// Of the mark that the endpoint resolver's parameters are there.
     EndpointParams,
+    /// Of the mark that the auth scheme resolver's parameters are there.
     AuthParams,
+    /// Of the mark that the response's length is held to its header.
     EnforceLength,
+    /// Of the names of the interceptors that aren't run.
     Disable,
+    /// Of the attempt whose connection is captured.
     Capture,
+    /// Of the attempt whose connection isn't used again.
     Poisoned,
+    /// Of the mark that the upload is watched for stalls.
     Upload,
+    /// Of a setting of the caller's own, by its name.
     User(Text),
 }
 

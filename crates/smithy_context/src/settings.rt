@@ -1,6 +1,8 @@
 //! The settings of a run: layers, and the run's own state above them.
-ghost use Rattle.std.specs.Prelude.{◌≡◌, [], ◌∷◌, ◌++◌, length, IfOk, OnOk, OnErr, option_and_then, option_copied};
-ghost use Rattle.smithy_context.specs.Settings.{no_layers, with_layer, with_merged, last_entry, loaded};
+ghost use Rattle.std.specs.Prelude.{◌≡◌, [], ◌∷◌, ◌++◌, length, IfOk, OnOk, OnErr, option_and_then};
+ghost use Rattle.std.specs.Prelude.{option_copied};
+ghost use Rattle.smithy_context.specs.Settings.{no_layers, with_layer, with_merged, last_entry};
+ghost use Rattle.smithy_context.specs.Settings.{loaded};
 ghost use Rattle.smithy_context.specs.Layer.{mentioned, merged};
 
 use crate::{Layer, LayerEntry, Setting, SettingKey};

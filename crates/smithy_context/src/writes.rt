@@ -1,6 +1,7 @@
 //! Which part of a run a hook may write.
 ghost use Rattle.std.specs.Prelude.{◌≡◌};
-ghost use Rattle.smithy_context.specs.Hooks.{may_write, allowed, writes_input, writes_request, writes_response, writes_outcome};
+ghost use Rattle.smithy_context.specs.Hooks.{may_write, allowed, writes_input, writes_request};
+ghost use Rattle.smithy_context.specs.Hooks.{writes_response, writes_outcome};
 
 use crate::Change;
 use smithy_types::Hook;

@@ -18,7 +18,12 @@ pub struct TimeoutConfig {
 impl TimeoutConfig {
     /// No deadline at all.
     pub fn disabled() -> TimeoutConfig
-        ensures { result ≡ record { connect = None; read = None; operation = None; attempt = None } }
+        ensures { result ≡ record {
+          connect = None;
+          read = None;
+          operation = None;
+          attempt = None;
+        } }
     {
         TimeoutConfig {
             connect: None,

@@ -1,5 +1,5 @@
-//! The plain types of a run: texts and blobs, requests and responses, faults, notes, and what values
-//! and timers are to a crate above.
+//! The plain types of a run: texts and blobs, requests and responses, faults, notes, and what
+//! values and timers are to a crate above.
 #![tactic(auto)]
 
 pub mod acceptor;

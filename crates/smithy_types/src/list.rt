@@ -1,6 +1,7 @@
 //! Lists that are made without an allocator.
 ghost use Rattle.std.specs.List.{AllZip};
-ghost use Rattle.std.specs.Prelude.{◌≡◌, ◌<◌, slice_set, [], ◌∷◌, ◌++◌, length, ◌==◌, IfOk, OnOk, OnErr};
+ghost use Rattle.std.specs.Prelude.{◌≡◌, ◌<◌, slice_set, [], ◌∷◌, ◌++◌, length, ◌==◌, IfOk, OnOk};
+ghost use Rattle.std.specs.Prelude.{OnErr};
 
 use crate::OutOfMemory;
 use std::alloc::{AllocError, Global};

@@ -87,7 +87,9 @@ impl PartialEq for RetryPartition {
 
     fn eq(&self, other: &RetryPartition) -> bool
         ensures value { result ≡ same_partition self.now other.now }
-        ensures equal { IsTrue result ↔ ((is_some self.now.custom ≡ is_some other.now.custom) × (self.now.name ≡ other.now.name)) }
+        ensures equal { IsTrue result
+            ↔ ((is_some self.now.custom ≡ is_some other.now.custom)
+            × (self.now.name ≡ other.now.name)) }
     {
         self.custom.is_some() == other.custom.is_some() && self.name == other.name
     }

@@ -25,6 +25,7 @@ pub trait ProvideErrorKind: Wire {
     where
         Self: Sized,
         ensures value { result ≡ kind_in payload.now }
-        ensures accepted { Self.accepts payload.now ≡ true → (error : Self) × Self.reads_as payload.now error × (result ≡ kind error) }
+        ensures accepted { Self.accepts payload.now ≡ true → (error : Self)
+            × Self.reads_as payload.now error × (result ≡ kind error) }
         ensures refused { Self.accepts payload.now ≡ false → result ≡ None };
 }

@@ -16,6 +16,7 @@ pub trait Wire {
     /// The payload reads as the value.
     ghost reads_as: { Payload → Self → Type 0 };
 
+    /// The payload that the value is. It is accepted, and reads as the value.
     fn to_payload(&self, alloc: Global) -> Result<Payload, OutOfMemory>
         ensures accepted { IfOk result (λ p. accepts p ≡ true) }
         ensures same { IfOk result (λ p. reads_as p self.now) };
@@ -24,7 +25,8 @@ pub trait Wire {
     fn from_payload(alloc: Global, payload: &Payload) -> Result<Option<Self>, OutOfMemory>
     where
         Self: Sized,
-        ensures accepted { IfOk result (λ r. MatchOption r (accepts payload.now ≡ false) (λ _. accepts payload.now ≡ true)) }
+        ensures accepted { IfOk result
+            (λ r. MatchOption r (accepts payload.now ≡ false) (λ _. accepts payload.now ≡ true)) }
         ensures reads { IfOk result (λ r. IfSome r (λ x. reads_as payload.now x)) };
 
     /// A payload reads as one value at most.

@@ -61,6 +61,7 @@ impl BinLabel {
 /// What happened in a small part of the window of time.
 #[derive(Clone, Copy)]
 pub struct Bin {
+    /// What it counts as.
     pub label: BinLabel,
     /// The bytes that were transferred, at most `u64::MAX`.
     pub bytes: u64,

@@ -36,7 +36,11 @@ impl MinimumThroughputBodyOptions {
 
     /// A builder with these parts set, but for the window.
     pub fn to_builder(self) -> MinimumThroughputBodyOptionsBuilder
-        ensures { result ≡ record unset { minimum_throughput = Some self.minimum_throughput; grace_period = Some self.grace_period } }
+        ensures { result ≡ record unset {
+          minimum_throughput = Some self.minimum_throughput;
+          grace_period = Some
+              self.grace_period;
+        } }
     {
         MinimumThroughputBodyOptionsBuilder::new()
             .minimum_throughput(self.minimum_throughput)
@@ -90,7 +94,8 @@ impl Default for MinimumThroughputBodyOptions {
 impl From<StalledStreamProtectionConfig> for MinimumThroughputBodyOptions {
     ghost use Rattle.stream_guard.specs.Options.{default_options};
 
-    ghost from_gives = { λ config options. options ≡ record default_options { grace_period = config.grace_period } };
+    ghost from_gives = { λ config options. options ≡
+        record default_options { grace_period = config.grace_period } };
 
     fn from(config: StalledStreamProtectionConfig) -> MinimumThroughputBodyOptions {
         MinimumThroughputBodyOptions {

@@ -12,13 +12,15 @@ const SECOND: u64 = 1_000_000_000;
 /// 25 s, and over no time it counts as zero.
 #[derive(Clone, Copy, Debug)]
 pub struct Throughput {
+    /// How many bytes.
     pub bytes_read: u64,
     /// In ns.
     pub per_time_elapsed: u64,
 }
 
 impl Throughput {
-    ghost use Rattle.stream_guard.specs.Rate.{per_second, fraction_bytes, fraction_nanos, thousandths_of};
+    ghost use Rattle.stream_guard.specs.Rate.{per_second, fraction_bytes, fraction_nanos};
+    ghost use Rattle.stream_guard.specs.Rate.{thousandths_of};
 
     /// So many bytes over so many ns.
     pub const fn new(bytes_read: u64, per_time_elapsed: u64) -> Throughput

@@ -1,10 +1,18 @@
 //! Kinds of question, and answers.
 ghost use Rattle.std.specs.Prelude.{◌≡◌, IfOk, Some};
-ghost use Rattle.value_json.specs.AnswerReadings.{unless_done, hooked_at, hook_answer_at, absent_at, absence_at, waiting_at, configured_at, requested_at, loaded_at, initial_at, started_at, waited_at, chosen_at, choosing_at, resolved_at, connector_failed_at, transmitted_at, outcome_answer_at, streamed_at, body_read_at, noted_at, plainly_decided_at, decided_at, said_at, answer_at, kind_at};
+ghost use Rattle.value_json.specs.AnswerReadings.{unless_done, hooked_at, hook_answer_at};
+ghost use Rattle.value_json.specs.AnswerReadings.{absent_at, absence_at, waiting_at, configured_at};
+ghost use Rattle.value_json.specs.AnswerReadings.{requested_at, loaded_at, initial_at, started_at};
+ghost use Rattle.value_json.specs.AnswerReadings.{waited_at, chosen_at, choosing_at, resolved_at};
+ghost use Rattle.value_json.specs.AnswerReadings.{connector_failed_at, transmitted_at};
+ghost use Rattle.value_json.specs.AnswerReadings.{outcome_answer_at, streamed_at, body_read_at};
+ghost use Rattle.value_json.specs.AnswerReadings.{noted_at, plainly_decided_at, decided_at};
+ghost use Rattle.value_json.specs.AnswerReadings.{said_at, answer_at, kind_at};
 ghost use Rattle.json_forms.specs.JsonData.{data_of};
 ghost use Rattle.json_forms.specs.Reading.{Reads};
 ghost use Rattle.serde_json.specs.View.{view};
-ghost use Rattle.value_json.specs.Values.{does_nothing, hook_answer_data, chosen_data, answer_data, kind_data};
+ghost use Rattle.value_json.specs.Values.{does_nothing, hook_answer_data, chosen_data, answer_data};
+ghost use Rattle.value_json.specs.Values.{kind_data};
 
 use crate::fault::{
     print_connector_kind, print_optional_change, print_outcome, read_connector_kind,

@@ -3,10 +3,13 @@ ghost use Rattle.std.specs.Prelude.{◌≡◌, IfOk};
 ghost use Rattle.json_forms.specs.Forms.{optional_at};
 ghost use Rattle.json_forms.specs.JsonData.{data_of};
 ghost use Rattle.json_forms.specs.Reading.{Reads};
-ghost use Rattle.value_json.specs.Readings.{error_kind_at, connector_at, operation_fault_at, connector_fault_at, plain_fault_at, fault_at, outcome_at, change_at};
+ghost use Rattle.value_json.specs.Readings.{error_kind_at, connector_at, operation_fault_at};
+ghost use Rattle.value_json.specs.Readings.{connector_fault_at, plain_fault_at, fault_at};
+ghost use Rattle.value_json.specs.Readings.{outcome_at, change_at};
 ghost use Rattle.serde_json.specs.View.{view};
 ghost use Rattle.json_forms.specs.Prints.{null_or};
-ghost use Rattle.value_json.specs.Values.{error_kind_data, connector_data, fault_data, outcome_data, change_data};
+ghost use Rattle.value_json.specs.Values.{error_kind_data, connector_data, fault_data};
+ghost use Rattle.value_json.specs.Values.{outcome_data, change_data};
 
 use crate::http::{
     print_payload, print_request, print_response, read_payload, read_request, read_response,

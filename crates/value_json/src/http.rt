@@ -6,11 +6,16 @@ ghost use Rattle.json_forms.specs.Forms.{optional_at, texts_at};
 ghost use Rattle.json_forms.specs.JsonData.{data_of};
 ghost use Rattle.json_forms.specs.Lists.{list_of};
 ghost use Rattle.json_forms.specs.Reading.{Reads};
-ghost use Rattle.value_json.specs.Readings.{payload_at, is_field_name, field_name, field_value, header_at, header_items, headers_at, put_within, sent_at, body_at, request_at, response_at, identity_at, endpoint_header_at, endpoint_at};
+ghost use Rattle.value_json.specs.Readings.{payload_at, is_field_name, field_name, field_value};
+ghost use Rattle.value_json.specs.Readings.{header_at, header_items, headers_at, put_within};
+ghost use Rattle.value_json.specs.Readings.{sent_at, body_at, request_at, response_at, identity_at};
+ghost use Rattle.value_json.specs.Readings.{endpoint_header_at, endpoint_at};
 ghost use Rattle.json_forms.specs.declared.read.ReadError.TheVariants.{Memory};
 ghost use Rattle.serde_json.specs.View.{view, items_view};
 ghost use Rattle.json_forms.specs.Prints.{null_or};
-ghost use Rattle.value_json.specs.Values.{payload_data, headers_data, body_data, request_data, response_data, identity_data, endpoint_header_data, endpoint_data};
+ghost use Rattle.value_json.specs.Values.{payload_data, headers_data, body_data, request_data};
+ghost use Rattle.value_json.specs.Values.{response_data, identity_data, endpoint_header_data};
+ghost use Rattle.value_json.specs.Values.{endpoint_data};
 
 use http_header::{HeaderMap, HeaderName, HeaderValue, is_token_char};
 use json_forms::forms::{

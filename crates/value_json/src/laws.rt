@@ -15,15 +15,19 @@ ghost use Rattle.value_json.specs.Values.{answer_data, kind_data, payload_data};
 /// What an answer that JSON can spell prints as is read as that answer, at each kind of question
 /// that it fits.
 pub fn printed_answers_are_read()
-    ensures { (k : Kind) (a : Answer) → fits k a ≡ true → answer_spellable a ≡ true → answer_at k (answer_data a) ≡ Some a }
+    ensures { (k : Kind) (a : Answer) → fits k a ≡ true → answer_spellable a ≡ true →
+        answer_at k (answer_data a) ≡ Some a }
 {}
 
 /// What is read of a JSON value fits its question, and is an answer that JSON can spell. So it
 /// prints as JSON that is read as the same answer.
 pub fn read_answers_can_be_spelled()
-    ensures fitting { (k : Kind) (v : Value) (a : Answer) → answer_at k (view v) ≡ Some a → fits k a ≡ true }
-    ensures spellable { (k : Kind) (v : Value) (a : Answer) → answer_at k (view v) ≡ Some a → answer_spellable a ≡ true }
-    ensures again { (k : Kind) (v : Value) (a : Answer) → answer_at k (view v) ≡ Some a → answer_at k (answer_data a) ≡ Some a }
+    ensures fitting { (k : Kind) (v : Value) (a : Answer) → answer_at k (view v) ≡ Some a →
+        fits k a ≡ true }
+    ensures spellable { (k : Kind) (v : Value) (a : Answer) → answer_at k (view v) ≡ Some a →
+        answer_spellable a ≡ true }
+    ensures again { (k : Kind) (v : Value) (a : Answer) → answer_at k (view v) ≡ Some a →
+        answer_at k (answer_data a) ≡ Some a }
 {}
 
 /// What a kind prints as is read as that kind.
@@ -33,6 +37,8 @@ pub fn printed_kinds_are_read()
 
 /// What a payload of Rust's type prints as is read as that payload, and what is read is one.
 pub fn printed_payloads_are_read()
-    ensures printed { (p : Payload) → payload_spellable p ≡ true → payload_at (payload_data p) ≡ Some p }
-    ensures read { (v : Value) (p : Payload) → payload_at (view v) ≡ Some p → payload_spellable p ≡ true }
+    ensures printed { (p : Payload) → payload_spellable p ≡ true →
+        payload_at (payload_data p) ≡ Some p }
+    ensures read { (v : Value) (p : Payload) → payload_at (view v) ≡ Some p →
+        payload_spellable p ≡ true }
 {}

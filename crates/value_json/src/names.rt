@@ -2,7 +2,11 @@
 ghost use Rattle.std.specs.Prelude.{◌≡◌, ◌++◌, nat_eq, option_copied};
 ghost use Rattle.std.specs.Cmp.Lexicographic.{pointwise};
 ghost use Rattle.json_forms.specs.Forms.{named};
-ghost use Rattle.value_json.specs.Names.{hook_text, role_text, stage_text, abandoned_text, kind_front, kind_name, kind_text, error_kind_text, stop_text, mode_text, reconnect_text, version_text, spec_versions, error_kinds, stop_points, retry_modes, reconnect_modes, all_kinds};
+ghost use Rattle.value_json.specs.Names.{hook_text, role_text, stage_text, abandoned_text};
+ghost use Rattle.value_json.specs.Names.{kind_front, kind_name, kind_text, error_kind_text};
+ghost use Rattle.value_json.specs.Names.{stop_text, mode_text, reconnect_text, version_text};
+ghost use Rattle.value_json.specs.Names.{spec_versions, error_kinds, stop_points, retry_modes};
+ghost use Rattle.value_json.specs.Names.{reconnect_modes, all_kinds};
 
 use run_grammar::{Abandonable, ConfigureStage, Kind, Role};
 use smithy_types::{ErrorKind, Hook, ReconnectMode, RetryMode, RetrySpecVersion, StopPoint};

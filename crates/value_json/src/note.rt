@@ -1,11 +1,13 @@
 //! What a world notes beside its answers.
 ghost use Rattle.std.specs.Prelude.{◌≡◌, IfOk};
-ghost use Rattle.value_json.specs.AnswerReadings.{choose_note_at, choice_at, indicated_at, action_at, reason_at, sums_at, note_at};
+ghost use Rattle.value_json.specs.AnswerReadings.{choose_note_at, choice_at, indicated_at};
+ghost use Rattle.value_json.specs.AnswerReadings.{action_at, reason_at, sums_at, note_at};
 ghost use Rattle.json_forms.specs.Forms.{optional_at};
 ghost use Rattle.json_forms.specs.JsonData.{data_of};
 ghost use Rattle.json_forms.specs.Reading.{Reads};
 ghost use Rattle.json_forms.specs.Prints.{null_or};
-ghost use Rattle.value_json.specs.Values.{choose_note_data, choice_data, action_data, reason_data, sums_data, note_data, decided_data};
+ghost use Rattle.value_json.specs.Values.{choose_note_data, choice_data, action_data, reason_data};
+ghost use Rattle.value_json.specs.Values.{sums_data, note_data, decided_data};
 ghost use Rattle.serde_json.specs.View.{view};
 
 use crate::fault::read_error_kind;

@@ -4,11 +4,15 @@ ghost use Rattle.json_forms.specs.Forms.{optional_at};
 ghost use Rattle.json_forms.specs.JsonData.{data_of};
 ghost use Rattle.json_forms.specs.Lists.{list_of};
 ghost use Rattle.json_forms.specs.Reading.{Reads};
-ghost use Rattle.value_json.specs.SettingReadings.{timeouts_at, version_at, spec_at, mode_at, reconnect_at, retry_at, stall_at, marked, setting_at, user_key, front_key, back_key, key_of_text, layer_entry_at, layer_at};
+ghost use Rattle.value_json.specs.SettingReadings.{timeouts_at, version_at, spec_at, mode_at};
+ghost use Rattle.value_json.specs.SettingReadings.{reconnect_at, retry_at, stall_at, marked};
+ghost use Rattle.value_json.specs.SettingReadings.{setting_at, user_key, front_key, back_key};
+ghost use Rattle.value_json.specs.SettingReadings.{key_of_text, layer_entry_at, layer_at};
 ghost use Rattle.json_forms.specs.declared.read.ReadError.TheVariants.{Memory};
 ghost use Rattle.serde_json.specs.View.{view, items_view};
 ghost use Rattle.json_forms.specs.Prints.{null_or};
-ghost use Rattle.value_json.specs.Values.{timeouts_data, spec_data, retry_data, stall_data, value_data, key_text, layer_entry_data, layer_data};
+ghost use Rattle.value_json.specs.Values.{timeouts_data, spec_data, retry_data, stall_data};
+ghost use Rattle.value_json.specs.Values.{value_data, key_text, layer_entry_data, layer_data};
 ghost use Rattle.serde_json.specs.Data.{string};
 
 use crate::names::{

@@ -14,7 +14,8 @@ pub(crate) fn answered<W: FleetWorld>(
     world: &mut W,
     fuel: &mut u64,
 ) -> Result<Option<(Seen, AcceptorState)>, OutOfMemory>
-    ensures calls { (times : ℕ) × Spends W.does world.old fuel.old (ask_calls waiter times result) world.new fuel.new }
+    ensures calls { (times : ℕ) × Spends W.does world.old fuel.old (ask_calls waiter times result)
+        world.new fuel.new }
     ensures all_spent { result ≡ Ok None → fuel.new ≡ 0 }
     ensures spends { IfOk result (λ found. OnSome found (fuel.new < fuel.old)) }
 {
@@ -37,7 +38,8 @@ pub(crate) fn answered<W: FleetWorld>(
 
 /// Asks a sleep until it is over, and answers whether it is.
 fn slept<W: FleetWorld>(sleep: u64, world: &mut W, fuel: &mut u64) -> bool
-    ensures calls { (times : ℕ) × Spends W.does world.old fuel.old (wake_calls (Some sleep) times result) world.new fuel.new }
+    ensures calls { (times : ℕ) × Spends W.does world.old fuel.old
+        (wake_calls (Some sleep) times result) world.new fuel.new }
     ensures all_spent { result ≡ false → fuel.new ≡ 0 }
 {
     while *fuel > 0 {
@@ -52,7 +54,8 @@ fn slept<W: FleetWorld>(sleep: u64, world: &mut W, fuel: &mut u64) -> bool
 
 /// Waits until the sleep that a waiter may have open is over, and answers whether it is.
 pub(crate) fn awake<W: FleetWorld>(sleep: Option<u64>, world: &mut W, fuel: &mut u64) -> bool
-    ensures calls { (times : ℕ) × Spends W.does world.old fuel.old (wake_calls sleep times result) world.new fuel.new }
+    ensures calls { (times : ℕ) × Spends W.does world.old fuel.old (wake_calls sleep times result)
+        world.new fuel.new }
     ensures all_spent { result ≡ false → fuel.new ≡ 0 }
 {
     match sleep {

@@ -26,14 +26,17 @@ pub(crate) fn closed<W: FleetWorld>(
 ) -> Result<Option<u128>, OutOfMemory>
     requires { W.sleeps world.old ≡ true }
     ensures events { (o : Origin W) (start : ℕ) (acts : List Act) (book : Book) →
-        Polled W.does o start waiter acts seat.old found log.old.events.items book world.old log.old.fuel →
+        Polled W.does o start waiter acts seat.old found log.old.events.items book world.old
+        log.old.fuel →
         Seated o.plans acts waiter seat.old →
         charges waiter (events_of acts) ≡ polls waiter (events_of acts) →
         ended waiter (events_of acts) ≡ false →
         MatchResult result
         (λ due. MatchOption due
-        (TurnsOver W.does o start waiter acts true seat.new log.new.events.items book world.new log.new.fuel)
-        (λ moment. Rests W.does o start waiter acts moment seat.new log.new.events.items book world.new log.new.fuel))
+        (TurnsOver W.does o start waiter acts true seat.new log.new.events.items book world.new
+        log.new.fuel)
+        (λ moment. Rests W.does o start waiter acts moment seat.new log.new.events.items book
+        world.new log.new.fuel))
         (λ _. Halts W.does o start book world.new) }
     ensures sleeps { W.sleeps world.new ≡ W.sleeps world.old }
     ensures same_fuel { log.new.fuel ≡ log.old.fuel }

@@ -13,7 +13,8 @@ use smithy_types::AcceptorState;
 /// The end that a poll makes by itself.
 fn end_by(seen: &Seen, state: AcceptorState) -> Option<FleetEnd>
     ensures { MatchOption result (verdict_of seen.now state ≡ goes_on)
-        (λ ending. (plan : Plan) (used : Bool) (number elapsed : ℕ) → EndsBy plan used number elapsed (verdict_of seen.now state) ending) }
+        (λ ending. (plan : Plan) (used : Bool) (number elapsed : ℕ) →
+        EndsBy plan used number elapsed (verdict_of seen.now state) ending) }
 {
     match seen {
         Seen::Unmodeled => Some(FleetEnd::OperationFailed),
@@ -40,7 +41,8 @@ pub(crate) fn end_of(
 ) -> Option<FleetEnd>
     ensures { MatchOption result
         (StaysOn (plan_of seat.now.backoff) seat.now.zero_used elapsed (verdict_of seen.now state))
-        (EndsBy (plan_of seat.now.backoff) seat.now.zero_used seat.now.number elapsed (verdict_of seen.now state)) }
+        (EndsBy (plan_of seat.now.backoff) seat.now.zero_used seat.now.number elapsed
+        (verdict_of seen.now state)) }
 {
     if let Some(end) = end_by(seen, state) {
         return Some(end);

@@ -1,5 +1,6 @@
 //! The delay behind a poll.
-ghost use Rattle.std.specs.Prelude.{◌≡◌, ◌≤◌, ◌==◌, ℕ, true, [], ◌∷◌, List, Ok, Some, None, MatchResult, IfOk, if◌then◌else◌};
+ghost use Rattle.std.specs.Prelude.{◌≡◌, ◌≤◌, ◌==◌, ℕ, true, [], ◌∷◌, List, Ok, Some, None};
+ghost use Rattle.std.specs.Prelude.{MatchResult, IfOk, if◌then◌else◌};
 ghost use Rattle.smithy_types.specs.Chain.{Chained};
 ghost use Rattle.smithy_types.specs.declared.timers.TimersCall.TheVariants.{Start};
 ghost use Rattle.waiters.specs.Delay.{IsDelay};
@@ -30,7 +31,8 @@ fn started<W: FleetWorld>(
     requires { W.sleeps world.old ≡ true }
     ensures calls { MatchResult result
         (λ sleep. (number : ℕ) × (sleep ≡ (if nanos == 0 then None else Some number))
-        × Chained W.does world.old (if nanos == 0 then [] else timed (Start nanos (Ok (Some number))) ∷ []) world.new)
+        × Chained W.does world.old (if nanos == 0 then [] else timed
+        (Start nanos (Ok (Some number))) ∷ []) world.new)
         (λ _. (calls : List FleetCall) × Chained W.does world.old calls world.new) }
     ensures sleeps { W.sleeps world.new ≡ W.sleeps world.old }
 {
@@ -51,10 +53,13 @@ pub(crate) fn paused<W: FleetWorld>(
 ) -> Result<Pause, OutOfMemory>
     requires counted { 1 ≤ number }
     requires has_sleep { W.sleeps world.old ≡ true }
-    ensures delay { IfOk result (λ p. IsDelay backoff.now.min_delay backoff.now.max_delay backoff.now.max_wait number elapsed p.word p.nanos) }
+    ensures delay { IfOk result (λ p. IsDelay backoff.now.min_delay backoff.now.max_delay
+        backoff.now.max_wait number elapsed p.word p.nanos) }
     ensures calls { MatchResult result
         (λ p. (number : ℕ) × (p.sleep ≡ (if p.nanos == 0 then None else Some number))
-        × Chained W.does world.old (drew p.word ∷ (if p.nanos == 0 then [] else timed (Start p.nanos (Ok (Some number))) ∷ [])) world.new)
+        × Chained W.does world.old (drew p.word
+        ∷ (if p.nanos == 0 then [] else timed (Start p.nanos (Ok (Some number))) ∷ []))
+        world.new)
         (λ _. (calls : List FleetCall) × Chained W.does world.old calls world.new) }
     ensures sleeps { W.sleeps world.new ≡ W.sleeps world.old }
 {

@@ -1,5 +1,6 @@
 //! Waiting for a waiter's next poll, and paying for it.
-ghost use Rattle.std.specs.Prelude.{◌≡◌, ◌≤◌, ◌-◌, ◌++◌, [], ◌∷◌, ℕ, true, MatchResult, OnOk, List, length};
+ghost use Rattle.std.specs.Prelude.{◌≡◌, ◌≤◌, ◌-◌, ◌++◌, [], ◌∷◌, ℕ, true, MatchResult, OnOk, List};
+ghost use Rattle.std.specs.Prelude.{length};
 ghost use Rattle.waiter_fleet.specs.Acts.{Act, events_of, open_sleep};
 ghost use Rattle.waiter_fleet.specs.Events.{charges, polls};
 ghost use Rattle.waiter_fleet.specs.Fleet.{IsTurnOf, is_settled};
@@ -20,7 +21,9 @@ use waiters::backoff::SECOND;
 
 /// Ends a waiter whose next poll the bucket refused.
 fn refuse(waiter: u32, cost: u32, moment: u64, log: &mut Log) -> Result<(), OutOfMemory>
-    ensures added { OnOk result (log.new.events.items ≡ log.old.events.items ++ FleetEvent.Refused waiter cost moment ∷ [] ++ FleetEvent.End waiter (FleetEnd.NoQuota cost) ∷ []) }
+    ensures added { OnOk result (log.new.events.items ≡ log.old.events.items
+        ++ FleetEvent.Refused waiter cost moment ∷ []
+        ++ FleetEvent.End waiter (FleetEnd.NoQuota cost) ∷ []) }
     ensures same_fuel { log.new.fuel ≡ log.old.fuel }
 {
     log.add(FleetEvent::Refused {
@@ -81,7 +84,8 @@ pub(crate) fn readied<W: FleetWorld>(
         is_settled (events_of acts) ≡ true →
         charges waiter (events_of acts) ≡ polls waiter (events_of acts) - 1 →
         MatchResult result
-        (ReadyEnds W.does o start acts waiter seat.now log.new.events.items bucket.new world.new log.new.fuel)
+        (ReadyEnds W.does o start acts waiter seat.now log.new.events.items bucket.new world.new
+        log.new.fuel)
         (λ _. Halts W.does o start bucket.new world.new) }
     ensures sleeps { W.sleeps world.new ≡ W.sleeps world.old }
     ensures spends { log.new.fuel ≤ log.old.fuel }

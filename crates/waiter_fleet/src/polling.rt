@@ -32,10 +32,12 @@ pub(crate) fn polled<W: FleetWorld>(
         MatchResult result
         (λ found. MatchOption found
         (RunsOut W.does o start acts log.new.events.items book world.new log.new.fuel)
-        (λ one. Polled W.does o start waiter acts seat.now one log.new.events.items book world.new log.new.fuel))
+        (λ one. Polled W.does o start waiter acts seat.now one log.new.events.items book world.new
+        log.new.fuel))
         (λ _. Halts W.does o start book world.new) }
     ensures sleeps { W.sleeps world.new ≡ W.sleeps world.old }
-    ensures spends { IfOk result (λ found. MatchOption found (log.new.fuel ≤ log.old.fuel) (λ _. log.new.fuel < log.old.fuel)) }
+    ensures spends { IfOk result (λ found. MatchOption found (log.new.fuel ≤ log.old.fuel)
+        (λ _. log.new.fuel < log.old.fuel)) }
 {
     let answer = match answered(alloc, waiter, world, &mut log.fuel) {
         Err(refused) => return Err(refused),

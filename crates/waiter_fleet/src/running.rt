@@ -1,5 +1,6 @@
 //! The turns of a fleet, one after another.
-ghost use Rattle.std.specs.Prelude.{◌≡◌, ◌+◌, ◌<◌, ◌≤◌, ◌^◌, [], ℕ, true, false, List, length, IfOk, MatchResult};
+ghost use Rattle.std.specs.Prelude.{◌≡◌, ◌+◌, ◌<◌, ◌≤◌, ◌^◌, [], ℕ, true, false, List, length};
+ghost use Rattle.std.specs.Prelude.{IfOk, MatchResult};
 ghost use Rattle.waiter_fleet.specs.Acts.{Act, events_of};
 ghost use Rattle.waiter_fleet.specs.Fleet.{IsTurnOf};
 ghost use Rattle.waiter_fleet.specs.Fleets.{Between, IsScheduled, Over, Popped, Stepped};
@@ -47,10 +48,12 @@ fn step<W: FleetWorld>(
     requires once { NoneIsOf due.waiter schedule.old }
     requires has_sleep { W.sleeps world.old ≡ true }
     ensures events { (o : Origin W) (acts : List Act) →
-        Between W.does o start acts seats.old.items log.old.events.items bucket.old world.old log.old.fuel →
+        Between W.does o start acts seats.old.items log.old.events.items bucket.old world.old
+        log.old.fuel →
         Popped (length o.plans) start (events_of acts) due schedule.old →
         MatchResult result
-        (Stepped W.does o start seats.new.items schedule.new log.new.events.items bucket.new world.new log.new.fuel)
+        (Stepped W.does o start seats.new.items schedule.new log.new.events.items bucket.new
+        world.new log.new.fuel)
         (λ _. Halts W.does o start bucket.new world.new) }
     ensures sleeps { W.sleeps world.new ≡ W.sleeps world.old }
     ensures spends { IfOk result (λ more. more ≡ true →
@@ -84,9 +87,11 @@ pub(crate) fn ran<W: FleetWorld>(
     requires good { AllGood plans.now }
     requires numbered { length plans.now < 2 ^ 32 }
     requires has_sleep { W.sleeps world.old ≡ true }
-    ensures { let o : Origin W = record { plans = plans.now; book = bucket.old; world = world.old; fuel = fuel } in
+    ensures { let o : Origin W = record
+        { plans = plans.now; book = bucket.old; world = world.old; fuel = fuel } in
         MatchResult result
-        (λ ran. Over W.does o ran.start ran.seats.items ran.log.events.items bucket.new world.new ran.log.fuel)
+        (λ ran. Over W.does o ran.start ran.seats.items ran.log.events.items bucket.new world.new
+        ran.log.fuel)
         (λ _. (start : ℕ) × Halts W.does o start bucket.new world.new) }
 {
     let start = world.now();

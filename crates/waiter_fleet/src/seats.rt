@@ -1,5 +1,6 @@
 //! The seats of a fleet's waiters.
-ghost use Rattle.std.specs.Prelude.{◌≡◌, ◌<◌, ◌^◌, ◌++◌, [], length, List, true, false, None, MatchOption, IfOk, OnOk};
+ghost use Rattle.std.specs.Prelude.{◌≡◌, ◌<◌, ◌^◌, ◌++◌, [], length, List, true, false, None};
+ghost use Rattle.std.specs.Prelude.{MatchOption, IfOk, OnOk};
 ghost use Rattle.waiter_fleet.specs.Fleet.{left_over};
 ghost use Rattle.waiter_fleet.specs.Events.{in_order};
 ghost use Rattle.waiter_fleet.specs.Plans.{AllGood, IsFirstBad, is_good};
@@ -66,7 +67,8 @@ pub(crate) fn seats_of(alloc: Global, plans: &[Plan]) -> Result<Vec<Seat>, OutOf
 pub(crate) fn leave(seats: &[Seat], log: &mut Log) -> Result<(), OutOfMemory>
     requires { length seats.now < 2 ^ 32 }
     ensures { OnOk result ((events : List FleetEvent) → SayWhoEnded events seats.now →
-        log.new.events.items ≡ log.old.events.items ++ in_order (left_over (length seats.now) events)) }
+        log.new.events.items ≡ log.old.events.items
+        ++ in_order (left_over (length seats.now) events)) }
 {
     for (waiter, seat) in seats.iter().enumerate() {
         if !seat.ended {

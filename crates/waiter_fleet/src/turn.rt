@@ -1,5 +1,6 @@
 //! The turn of a waiter.
-ghost use Rattle.std.specs.Prelude.{◌≡◌, ◌<◌, ◌≤◌, ◌-◌, ◌+◌, ℕ, true, false, List, length, IfOk, MatchResult};
+ghost use Rattle.std.specs.Prelude.{◌≡◌, ◌<◌, ◌≤◌, ◌-◌, ◌+◌, ℕ, true, false, List, length, IfOk};
+ghost use Rattle.std.specs.Prelude.{MatchResult};
 ghost use Rattle.retry_quota.specs.Book.{Book};
 ghost use Rattle.waiter_fleet.specs.Acts.{Act, events_of};
 ghost use Rattle.waiter_fleet.specs.Events.{charges, polls};
@@ -35,7 +36,8 @@ fn taken<W: FleetWorld>(
         Seated o.plans acts waiter seat.old →
         MayPoll o.plans o.book start (events_of acts) waiter seat.old.number →
         MatchResult result
-        (TurnEnds W.does o start waiter acts seat.old seat.new log.new.events.items book world.new log.new.fuel)
+        (TurnEnds W.does o start waiter acts seat.old seat.new log.new.events.items book world.new
+        log.new.fuel)
         (λ _. Halts W.does o start book world.new) }
     ensures sleeps { W.sleeps world.new ≡ W.sleeps world.old }
     ensures spends { IfOk result (TurnSpends log.old.fuel log.new.fuel) }
@@ -74,7 +76,8 @@ pub(crate) fn turn<W: FleetWorld>(
         is_settled (events_of acts) ≡ true →
         charges waiter (events_of acts) ≡ polls waiter (events_of acts) - 1 →
         MatchResult result
-        (TurnEnds W.does o start waiter acts seat.old seat.new log.new.events.items bucket.new world.new log.new.fuel)
+        (TurnEnds W.does o start waiter acts seat.old seat.new log.new.events.items bucket.new
+        world.new log.new.fuel)
         (λ _. Halts W.does o start bucket.new world.new) }
     ensures sleeps { W.sleeps world.new ≡ W.sleeps world.old }
     ensures spends { IfOk result (TurnSpends log.old.fuel log.new.fuel) }

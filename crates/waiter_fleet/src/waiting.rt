@@ -1,5 +1,6 @@
 //! Many waiters under one bucket.
-ghost use Rattle.std.specs.Prelude.{◌≡◌, ◌↔◌, ◌+◌, ◌<◌, ◌^◌, ℕ, true, length, Err, IfOk, MatchResult};
+ghost use Rattle.std.specs.Prelude.{◌≡◌, ◌↔◌, ◌+◌, ◌<◌, ◌^◌, ℕ, true, length, Err, IfOk};
+ghost use Rattle.std.specs.Prelude.{MatchResult};
 ghost use Rattle.waiter_fleet.specs.Plans.{AllGood, IsFirstBad};
 ghost use Rattle.waiter_fleet.specs.Steps.{Halts, Origin};
 ghost use Rattle.waiter_fleet.specs.Waiting.{WaitsAll};
@@ -36,12 +37,15 @@ pub fn wait_all<W: FleetWorld>(
     requires has_sleep { W.sleeps world.old ≡ true }
     requires has_room { W.waits world.old + fuel < 2 ^ 64 }
     ensures waits { IfOk result (λ events. WaitsAll W.does W.waits
-        (record { plans = plans.now; book = bucket.old; world = world.old; fuel = fuel }) events bucket.new world.new) }
-    ensures bad_plan { (waiter : ℕ) → (result ≡ Err (FleetError.BadPlan waiter)) ↔ IsFirstBad plans.now waiter }
+        (record { plans = plans.now; book = bucket.old; world = world.old; fuel = fuel }) events
+        bucket.new world.new) }
+    ensures bad_plan { (waiter : ℕ) → (result ≡ Err (FleetError.BadPlan waiter))
+        ↔ IsFirstBad plans.now waiter }
     ensures no_step { (waiter : ℕ) → IsFirstBad plans.now waiter → bucket.new ≡ bucket.old }
     ensures no_poll { (waiter : ℕ) → IsFirstBad plans.now waiter → world.new ≡ world.old }
     ensures out_of_memory { result ≡ Err FleetError.OutOfMemory → (start : ℕ) × Halts W.does
-        (record { plans = plans.now; book = bucket.old; world = world.old; fuel = fuel }) start bucket.new world.new }
+        (record { plans = plans.now; book = bucket.old; world = world.old; fuel = fuel }) start
+        bucket.new world.new }
 {
     if let Some(waiter) = first_bad(plans) {
         return Err(FleetError::BadPlan { waiter });
@@ -64,7 +68,8 @@ fn waited<W: FleetWorld>(
     requires numbered { length plans.now < 2 ^ 32 }
     requires has_sleep { W.sleeps world.old ≡ true }
     requires has_room { W.waits world.old + fuel < 2 ^ 64 }
-    ensures { let o : Origin W = record { plans = plans.now; book = bucket.old; world = world.old; fuel = fuel } in
+    ensures { let o : Origin W = record
+        { plans = plans.now; book = bucket.old; world = world.old; fuel = fuel } in
         MatchResult result
         (λ events. WaitsAll W.does W.waits o events bucket.new world.new)
         (λ _. (start : ℕ) × Halts W.does o start bucket.new world.new) }

@@ -29,12 +29,15 @@ pub trait FleetWorld: WaiterTimers {
         ensures { does self.old (polled waiter result) self.new };
 
     /// The calls of the timers are among these calls.
-    ghost made: { (old : Self) (call : FleetCall) (new : Self) → is_poll call ≡ false → Self.makes old (waiter_call call) new → does old call new };
+    ghost made: { (old : Self) (call : FleetCall) (new : Self) → is_poll call ≡ false →
+        Self.makes old (waiter_call call) new → does old call new };
 
     /// Each call is one of the timers: a poll counts there as one of the waiter's number.
-    ghost makes_it: { (old : Self) (call : FleetCall) (new : Self) → does old call new → Self.makes old (waiter_call call) new };
+    ghost makes_it: { (old : Self) (call : FleetCall) (new : Self) → does old call new →
+        Self.makes old (waiter_call call) new };
 
     /// The polls that had no answer yet and the `ready` calls that answered no are counted, and
     /// nothing else.
-    ghost counts_waits: { (old : Self) (call : FleetCall) (new : Self) → does old call new → Counts (waits old) call (waits new) };
+    ghost counts_waits: { (old : Self) (call : FleetCall) (new : Self) → does old call new →
+        Counts (waits old) call (waits new) };
 }

@@ -104,7 +104,8 @@ impl Timers for ScriptedWorld {
 
     ghost sleeps = { λ _. true };
 
-    ghost relates = { λ old one new. Makes old.unready old.waits (call.Timers one) new.unready new.waits };
+    ghost relates = { λ old one new. Makes old.unready old.waits (call.Timers one) new.unready
+        new.waits };
 
     fn has_sleep(&self) -> bool {
         true
@@ -179,9 +180,11 @@ impl FleetWorld for ScriptedWorld {
         Ok(Some((seen, poll.state)))
     }
 
-    ghost made = { λ old one new is made. does_made old.unready old.waits one new.unready new.waits is made };
+    ghost made = { λ old one new is made. does_made old.unready old.waits one new.unready new.waits
+        is made };
 
-    ghost makes_it = { λ old one new done. makes_done old.unready old.waits one new.unready new.waits done };
+    ghost makes_it = { λ old one new done. makes_done old.unready old.waits one new.unready
+        new.waits done };
 
     ghost counts_waits = { λ old one new done. done.waits };
 }

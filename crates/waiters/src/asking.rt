@@ -1,7 +1,8 @@
 //! Asking until there is an answer or the fuel is spent.
 ghost use Rattle.std.specs.Prelude.{◌≡◌, ◌≢◌, ◌≤◌, ℕ, Ok, true, false, OnErr};
 ghost use Rattle.waiters.specs.Calls.{KeepsTimers};
-ghost use Rattle.waiters.specs.Steps.{Spends, TimersSpend, ask_calls, pause_calls, error_of, sleep_calls};
+ghost use Rattle.waiters.specs.Steps.{Spends, TimersSpend, ask_calls, pause_calls, error_of};
+ghost use Rattle.waiters.specs.Steps.{sleep_calls};
 
 use crate::{WaiterError, WaiterTimers};
 use smithy_types::{OutOfMemory, SdkError};
@@ -38,7 +39,8 @@ where
     requires callable { G.IsAlwaysCallable operation.now }
     requires keeps { KeepsTimers T.makes (G.post operation.now) }
     requires counted { 1 ≤ number }
-    ensures calls { (times : ℕ) × Spends T.makes (G.post operation.now) timers.old fuel.old (ask_calls number times result) timers.new fuel.new }
+    ensures calls { (times : ℕ) × Spends T.makes (G.post operation.now) timers.old fuel.old
+        (ask_calls number times result) timers.new fuel.new }
     ensures all_spent { result ≡ Err Stop.Unfinished → fuel.new ≡ 0 }
 {
     loop {
@@ -60,7 +62,8 @@ where
 
 /// Asks a sleep until it is over, and answers whether it is.
 fn slept<T: WaiterTimers>(timers: &mut T, sleep: u64, fuel: &mut u64) -> bool
-    ensures calls { (times : ℕ) × TimersSpend T.makes timers.old fuel.old (sleep_calls sleep times result) timers.new fuel.new }
+    ensures calls { (times : ℕ) × TimersSpend T.makes timers.old fuel.old
+        (sleep_calls sleep times result) timers.new fuel.new }
     ensures all_spent { result ≡ false → fuel.new ≡ 0 }
 {
     while *fuel > 0 {
@@ -81,7 +84,9 @@ pub(crate) fn paused<T: WaiterTimers>(
     fuel: &mut u64,
 ) -> Result<(), Stop>
     requires { T.sleeps timers.old ≡ true }
-    ensures calls { (sleep times : ℕ) × TimersSpend T.makes timers.old fuel.old (pause_calls delay sleep times result) timers.new fuel.new }
+    ensures calls { (sleep times : ℕ)
+        × TimersSpend T.makes timers.old fuel.old (pause_calls delay sleep times result) timers.new
+        fuel.new }
     ensures all_spent { result ≡ Err Stop.Unfinished → fuel.new ≡ 0 }
     ensures some_delay { OnErr result (delay ≢ 0) }
 {

@@ -45,7 +45,8 @@ impl Backoff {
     /// How long to wait before the poll after this attempt.
     pub fn delay(&self, attempt: u32, elapsed: u64, word: u64) -> u64
         requires { 1 ≤ attempt }
-        ensures value { IsDelay self.now.min_delay self.now.max_delay self.now.max_wait attempt elapsed word result }
+        ensures value { IsDelay self.now.min_delay self.now.max_delay self.now.max_wait attempt
+            elapsed word result }
         ensures within { result ≤ self.now.max_wait - elapsed }
     {
         delay(

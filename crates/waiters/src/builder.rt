@@ -18,14 +18,24 @@ pub struct WaiterOrchestratorBuilder<F = (), G = ()> {
     pub time_source: bool,
     /// Whether the timers' sleeps are used.
     pub sleep_impl: bool,
+    /// What says what a poll means.
     pub acceptor: Option<F>,
+    /// What is polled.
     pub operation: Option<G>,
 }
 
 impl WaiterOrchestrator<(), ()> {
     /// A builder without any part. It takes no memory.
     pub fn builder() -> WaiterOrchestratorBuilder<(), ()>
-        ensures { result ≡ record { min_delay = None; max_delay = None; max_wait = None; time_source = false; sleep_impl = false; acceptor = None; operation = None } }
+        ensures { result ≡ record {
+          min_delay = None;
+          max_delay = None;
+          max_wait = None;
+          time_source = false;
+          sleep_impl = false;
+          acceptor = None;
+          operation = None;
+        } }
     {
         WaiterOrchestratorBuilder {
             min_delay: None,
@@ -42,7 +52,16 @@ impl WaiterOrchestrator<(), ()> {
 impl Default for WaiterOrchestratorBuilder<(), ()> {
     ghost use Rattle.std.specs.Prelude.{◌≡◌, None, false};
 
-    ghost is_default = { λ b. b ≡ record { min_delay = None; max_delay = None; max_wait = None; time_source = false; sleep_impl = false; acceptor = None; operation = None } };
+    ghost is_default = { λ b. b ≡
+        record {
+          min_delay = None;
+          max_delay = None;
+          max_wait = None;
+          time_source = false;
+          sleep_impl = false;
+          acceptor = None;
+          operation = None;
+        } };
 
     /// A builder without any part.
     fn default() -> Self {
@@ -168,7 +187,15 @@ impl<F, G> WaiterOrchestratorBuilder<F, G> {
 impl<G> WaiterOrchestratorBuilder<(), G> {
     /// What says how a poll's output, or its error of the operation's model, is to be taken.
     pub fn acceptor<F>(self, acceptor: F) -> WaiterOrchestratorBuilder<F, G>
-        ensures { result ≡ record { min_delay = self.min_delay; max_delay = self.max_delay; max_wait = self.max_wait; time_source = self.time_source; sleep_impl = self.sleep_impl; acceptor = Some acceptor; operation = self.operation } }
+        ensures { result ≡ record {
+          min_delay = self.min_delay;
+          max_delay = self.max_delay;
+          max_wait = self.max_wait;
+          time_source = self.time_source;
+          sleep_impl = self.sleep_impl;
+          acceptor = Some acceptor;
+          operation = self.operation;
+        } }
     {
         WaiterOrchestratorBuilder {
             min_delay: self.min_delay,
@@ -186,7 +213,15 @@ impl<F> WaiterOrchestratorBuilder<F, ()> {
     /// What is polled, with the timers and the number of the poll, from 1 on. It answers none while
     /// it has no answer yet.
     pub fn operation<G>(self, operation: G) -> WaiterOrchestratorBuilder<F, G>
-        ensures { result ≡ record { min_delay = self.min_delay; max_delay = self.max_delay; max_wait = self.max_wait; time_source = self.time_source; sleep_impl = self.sleep_impl; acceptor = self.acceptor; operation = Some operation } }
+        ensures { result ≡ record {
+          min_delay = self.min_delay;
+          max_delay = self.max_delay;
+          max_wait = self.max_wait;
+          time_source = self.time_source;
+          sleep_impl = self.sleep_impl;
+          acceptor = self.acceptor;
+          operation = Some operation;
+        } }
     {
         WaiterOrchestratorBuilder {
             min_delay: self.min_delay,

@@ -12,9 +12,11 @@ use smithy_types::AcceptorState;
 pub fn an_ended_walk_is_finished<F, O, E>(backoff: &Backoff, acceptor: &F)
 where
     F: Fn(Result<&O, &E>) -> AcceptorState,
-    ensures { (start other_start : ℕ) (turns other_turns : List (Turn O E)) (rest other_rest : List (Call O E)) (ending : End O E) →
+    ensures { (start other_start : ℕ) (turns other_turns : List (Turn O E))
+        (rest other_rest : List (Call O E)) (ending : End O E) →
         ending ≢ Err WaiterError.Unfinished → ending ≢ Err WaiterError.OutOfMemory →
         Rest backoff.now (F.post acceptor.now) start turns ending rest →
-        Rest backoff.now (F.post acceptor.now) other_start other_turns (Err WaiterError.Unfinished) other_rest →
+        Rest backoff.now (F.post acceptor.now) other_start other_turns (Err WaiterError.Unfinished)
+        other_rest →
         walk_calls turns ++ rest ≢ walk_calls other_turns ++ other_rest }
 {}

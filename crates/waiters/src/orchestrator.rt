@@ -15,6 +15,7 @@ use std::alloc::Global;
 /// Polls an operation until an acceptor says that the resource is in the desired state.
 #[derive(Drop)]
 pub struct WaiterOrchestrator<F, G> {
+    /// The numbers that its delays follow.
     pub backoff: Backoff,
     /// Says what an output, or an error of the operation's model, means.
     pub acceptor: F,
@@ -43,7 +44,8 @@ impl<F, G> WaiterOrchestrator<F, G> {
         requires keeps { KeepsTimers T.makes (G.post self.operation) }
         requires has_sleep { T.sleeps timers.old ≡ true }
         requires has_room { T.unready timers.old + fuel < 2 ^ 64 }
-        ensures waits { Waits self.backoff (F.post self.acceptor) T.makes T.unready (G.post self.operation) timers.old fuel result timers.new }
+        ensures waits { Waits self.backoff (F.post self.acceptor) T.makes T.unready
+            (G.post self.operation) timers.old fuel result timers.new }
     {
         let mut progress = Progress {
             start: timers.now(),
@@ -73,8 +75,10 @@ impl<F, G> WaiterOrchestrator<F, G> {
         requires keeps { KeepsTimers T.makes (G.post self.now.operation) }
         requires has_sleep { T.sleeps timers.old ≡ true }
         ensures { (before : List (Turn O E)) → StandsAfter before progress.old → MatchOption result
-            (GoesOn self.now.backoff (F.post self.now.acceptor) T.makes (G.post self.now.operation) before timers.old progress.old timers.new progress.new)
-            (Stops self.now.backoff (F.post self.now.acceptor) T.makes (G.post self.now.operation) before timers.old progress.old timers.new progress.new) }
+            (GoesOn self.now.backoff (F.post self.now.acceptor) T.makes (G.post self.now.operation)
+            before timers.old progress.old timers.new progress.new)
+            (Stops self.now.backoff (F.post self.now.acceptor) T.makes (G.post self.now.operation)
+            before timers.old progress.old timers.new progress.new) }
     {
         let polled = match answered(&self.operation, timers, progress.number, &mut progress.fuel) {
             Ok(polled) => polled,

@@ -5,6 +5,7 @@ use smithy_types::SdkError;
 /// The poll that ended a waiter: an output, or an error of the operation's model.
 #[derive(Debug, Drop)]
 pub struct FinalPoll<O, E> {
+    /// What it answered.
     pub result: Result<O, E>,
 }
 

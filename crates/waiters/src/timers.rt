@@ -52,12 +52,15 @@ pub trait WaiterTimers: Timers {
         ensures { makes self.old WaiterCall.Park self.new };
 
     /// The calls of the clock and the sleeps are among these calls.
-    ghost timers_make: { (old : Self) (call : TimersCall) (new : Self) → Self.relates old call new → makes old (WaiterCall.Timers call) new };
+    ghost timers_make: { (old : Self) (call : TimersCall) (new : Self) → Self.relates old call new →
+        makes old (WaiterCall.Timers call) new };
 
     /// Whether there are sleeps never changes.
-    ghost sleeps_stay: { (old : Self) (call : WaiterCall) (new : Self) → makes old call new → Self.sleeps new ≡ Self.sleeps old };
+    ghost sleeps_stay: { (old : Self) (call : WaiterCall) (new : Self) → makes old call new →
+        Self.sleeps new ≡ Self.sleeps old };
 
     /// The `ready` calls that answered no are counted, and nothing else. A poll of the operation
     /// leaves the count as it was.
-    ghost counts: { (old : Self) (call : WaiterCall) (new : Self) → makes old call new → Counts (unready old) call (unready new) };
+    ghost counts: { (old : Self) (call : WaiterCall) (new : Self) → makes old call new →
+        Counts (unready old) call (unready new) };
 }

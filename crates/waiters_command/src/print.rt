@@ -2,7 +2,9 @@
 ghost use Rattle.std.specs.Prelude.{◌≡◌, ◌++◌, IfOk, OnOk, option_map};
 ghost use Rattle.std.specs.List.{list_all};
 ghost use Rattle.json_forms.specs.JsonData.{data_of};
-ghost use Rattle.waiters_command.specs.Print.{bucket_data, came_to, end_data, end_name, event_data, events_text, fleet_text, is_well, line_of, poll_data, refusal_data, sleep_data};
+ghost use Rattle.waiters_command.specs.Print.{bucket_data, came_to, end_data, end_name, event_data};
+ghost use Rattle.waiters_command.specs.Print.{events_text, fleet_text, is_well, line_of, poll_data};
+ghost use Rattle.waiters_command.specs.Print.{refusal_data, sleep_data};
 
 use json_forms::Json;
 use shell::status::PrintStatus;

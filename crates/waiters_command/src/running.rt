@@ -38,7 +38,8 @@ pub fn waited(
     requires nothing_counted { world.old.waits ≡ 0 }
     requires few { fuel ≤ 100000 }
     ensures { IfOk result (λ events. WaitsAll Does waits_of
-        (record { plans = plans.now; book = bucket.old; world = world.old; fuel = fuel }) events bucket.new world.new) }
+        (record { plans = plans.now; book = bucket.old; world = world.old; fuel = fuel }) events
+        bucket.new world.new) }
 {
     match wait_all(alloc, plans, bucket, world, fuel) {
         Ok(events) => Ok(events),

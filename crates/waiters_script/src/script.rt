@@ -4,7 +4,8 @@ ghost use Rattle.serde_json.specs.Errors.{IsMemory};
 ghost use Rattle.serde_json.specs.View.{view, items_view};
 ghost use Rattle.json_forms.specs.Lists.{list_of};
 ghost use Rattle.json_forms.specs.Reading.{Reads};
-ghost use Rattle.waiters_script.specs.Script.{are_good, bucket_at, good_of, plan_at, script_at, some_of, waiter_at, waiters_at, IsScript};
+ghost use Rattle.waiters_script.specs.Script.{are_good, bucket_at, good_of, plan_at, script_at};
+ghost use Rattle.waiters_script.specs.Script.{some_of, waiter_at, waiters_at, IsScript};
 
 use crate::members::{ScriptObject, only_members};
 use crate::terms::WaitersScript;

@@ -1,7 +1,8 @@
 //! The script's invocations.
 ghost use Rattle.std.specs.Prelude.{◌≡◌, ◌<◌, ◌+◌, ◌%◌, ◌++◌, ◌∷◌, [], codes, IfOk};
 ghost use Rattle.std.specs.Fmt.{decimal};
-ghost use Rattle.workload.specs.Made.{available, made_invocation, made_invocations, response_at_once, unavailable};
+ghost use Rattle.workload.specs.Made.{available, made_invocation, made_invocations};
+ghost use Rattle.workload.specs.Made.{response_at_once, unavailable};
 
 use client_scripts::InvocationRecord;
 use rand_core::SeedableRng;

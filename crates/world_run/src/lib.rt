@@ -15,8 +15,8 @@ use std::alloc::Global;
 /// An operation whose input, output and error are payloads.
 pub type PayloadOperation = Operation<Payload, Payload, Payload>;
 
-/// Runs the operation over the world, to its end or to the head's stop point, and tells how it ended.
-/// The world's log grows by one run of at most the head's fuel of calls.
+/// Runs the operation over the world, to its end or to the head's stop point, and tells how it
+/// ended. The world's log grows by one run of at most the head's fuel of calls.
 pub fn run_over<W: World>(
     alloc: Global,
     operation: &PayloadOperation,

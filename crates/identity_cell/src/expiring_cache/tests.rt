@@ -6,6 +6,10 @@ use std::thread;
 
 const SECOND: u64 = 1_000_000_000;
 
+fn seconds(count: u64) -> u64 {
+    count.saturating_mul(SECOND)
+}
+
 type Shared = ExpiringCache<u64, char>;
 
 /// The value that an answer brings, where it brings one.
@@ -24,14 +28,14 @@ fn load(
     given: u64,
 ) -> Result<Option<u64>, OutOfMemory> {
     let answer = cache.get_or_load(rt, alloc, &mut Loading::new(), || {
-        LoadPoll::Ready(given, 100 * SECOND)
+        LoadPoll::Ready(given, seconds(100))
     })?;
     Ok(value(answer))
 }
 
 /// What a new caller is told at this second, where it is told a value.
-fn at(rt: &impl Wait, alloc: Global, cache: &Shared, now: u32) -> Result<Option<u64>, OutOfMemory> {
-    let moment = u64::from(now) * SECOND;
+fn at(rt: &impl Wait, alloc: Global, cache: &Shared, now: u64) -> Result<Option<u64>, OutOfMemory> {
+    let moment = seconds(now);
     match cache.yield_or_clear_if_expired(rt, alloc, moment, &mut Clearing::new())? {
         Cleared::Value(value) => Ok(Some(value)),
         _ => Ok(None),
@@ -41,7 +45,7 @@ fn at(rt: &impl Wait, alloc: Global, cache: &Shared, now: u32) -> Result<Option<
 #[test]
 fn a_value_expires_the_buffer_before_its_expiry(rt: HostRuntime) -> Result<(), Fail> {
     let alloc = rt.alloc();
-    let cache = Shared::new(alloc, 10 * SECOND)?;
+    let cache = Shared::new(alloc, seconds(10))?;
     assert_eq!(rt; at(&rt, alloc, &cache, 100)?, None);
     for (cleared, given) in [(1000, 8), (90, 9), (500, 10)] {
         assert_eq!(rt; load(&rt, alloc, &cache, given)?, Some(given));
@@ -56,7 +60,7 @@ fn a_value_expires_the_buffer_before_its_expiry(rt: HostRuntime) -> Result<(), F
 #[test]
 fn a_second_caller_waits_for_the_value_of_the_first(rt: HostRuntime) -> Result<(), Fail> {
     let alloc = rt.alloc();
-    let cache = Shared::new(alloc, 10 * SECOND)?;
+    let cache = Shared::new(alloc, seconds(10))?;
     let other = cache.clone()?;
     let mut loader = Loading::new();
     let mut waiter = Loading::new();
@@ -66,7 +70,7 @@ fn a_second_caller_waits_for_the_value_of_the_first(rt: HostRuntime) -> Result<(
     assert!(rt; matches!(told, CacheAnswer::NotYet));
     assert_eq!(rt; waiter.held(), Held::Wait);
     let loaded = cache.get_or_load(&rt, alloc, &mut loader, || {
-        LoadPoll::Ready(7, 100 * SECOND)
+        LoadPoll::Ready(7, seconds(100))
     })?;
     assert_eq!(rt; value(loaded), Some(7));
     let hit = other.get_or_load(&rt, alloc, &mut waiter, || LoadPoll::Failed('w'))?;

@@ -55,14 +55,22 @@ impl Timers for Sleeper {
     }
 }
 
+fn seconds(count: u64) -> u64 {
+    count.saturating_mul(SECOND)
+}
+
 /// Identities that are kept so long, so many of them, whose loads take at most a second.
 fn terms(max_partitions: u64) -> LazyCacheTerms {
     LazyCacheTerms {
         load_timeout: Some(SECOND),
-        buffer: 10 * SECOND,
-        default_expiration: 900 * SECOND,
+        buffer: seconds(10),
+        default_expiration: seconds(900),
         max_partitions,
     }
+}
+
+fn no_settings() -> Settings {
+    Settings::new()
 }
 
 fn scheme(id: &'static str) -> SchemeId {
@@ -74,9 +82,9 @@ fn looked(
     cache: &mut LazyCache,
     alloc: Global,
     id: &'static str,
-    now: u32,
+    now: u64,
 ) -> Result<Option<u64>, OutOfMemory> {
-    match cache.look(alloc, &scheme(id), u64::from(now) * SECOND)? {
+    match cache.look(alloc, &scheme(id), seconds(now))? {
         Looked::Load(ticket) => Ok(Some(ticket)),
         _ => Ok(None),
     }
@@ -89,15 +97,10 @@ fn opened(
     sleeper: &mut Sleeper,
     ticket: u64,
 ) -> Result<IdentityLoad, OutOfMemory> {
-    sleeper.moment = 2 * SECOND;
-    cache.open(
-        alloc,
-        sleeper,
-        scheme("key"),
-        ticket,
-        2 * SECOND,
-        &Settings::new(),
-    )
+    let now = seconds(2);
+    sleeper.moment = now;
+    let settings = no_settings();
+    cache.open(alloc, sleeper, scheme("key"), ticket, now, &settings)
 }
 
 #[test]
@@ -129,7 +132,7 @@ fn a_load_that_takes_too_long_has_failed(rt: HostRuntime) -> Result<(), Fail> {
     let mut sleeper = Sleeper::new();
     assert_eq!(rt; looked(&mut cache, alloc, "key", 2)?, Some(0));
     let load = opened(&mut cache, alloc, &mut sleeper, 0)?;
-    sleeper.moment = 3 * SECOND;
+    sleeper.moment = seconds(3);
     let reason = cache
         .wait(alloc, &mut sleeper, &load)?
         .unwrap_or(Text::new());

@@ -1,3 +1,4 @@
+//! Short runs, and operations over payloads.
 use super::*;
 use crate::operation::Operation;
 use crate::script::{ScriptAnswer, ScriptWorld};

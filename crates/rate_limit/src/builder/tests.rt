@@ -1,3 +1,4 @@
+//! Both kinds of setters, and the limiter that is built.
 use super::*;
 use retry_quota::RequestReason;
 use std::test::Fail;

@@ -1,3 +1,4 @@
+//! Worked rates over the time of the curve.
 use super::*;
 use std::test::Fail;
 

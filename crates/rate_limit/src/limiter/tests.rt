@@ -1,3 +1,4 @@
+//! Worked rates, grants and refusals of the limiter.
 use super::*;
 use std::test::Fail;
 

@@ -1,3 +1,4 @@
+//! By what a partition is known.
 use super::*;
 use smithy_types::Text;
 use std::alloc::Global;

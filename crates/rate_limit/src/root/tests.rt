@@ -1,3 +1,4 @@
+//! Worked cube roots.
 use super::*;
 use std::test::Fail;
 

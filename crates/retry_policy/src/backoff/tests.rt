@@ -1,3 +1,4 @@
+//! Worked backoffs.
 use super::*;
 use std::test::Fail;
 

@@ -1,3 +1,4 @@
+//! What the classifiers say of worked cases.
 ghost use Rattle.std.specs.Prelude.{◌≡◌};
 
 use super::*;
@@ -64,13 +65,20 @@ struct AddsAPause {
 
 impl ClassifyRetry for AddsAPause {
     ghost use Rattle.std.specs.Prelude.{codes, pos, None, Some};
-    ghost use Rattle.smithy_types.specs.declared.notes.RetryAction.TheVariants.{NoActionIndicated, RetryIndicated, RetryForbidden};
+    ghost use Rattle.smithy_types.specs.declared.notes.RetryAction.TheVariants.{NoActionIndicated};
+    ghost use Rattle.smithy_types.specs.declared.notes.RetryAction.TheVariants.{RetryIndicated};
+    ghost use Rattle.smithy_types.specs.declared.notes.RetryAction.TheVariants.{RetryForbidden};
 
     ghost called = { λ _. codes "a pause" };
 
     ghost ranked = { λ _. pos 30 };
 
-    ghost says = { λ adds _. elim [ NoActionIndicated ↦ NoActionIndicated | RetryIndicated kind retry_after ↦ elim retry_after [ None ↦ RetryIndicated kind (Some adds.nanos) | Some pause ↦ NoActionIndicated ] | RetryForbidden ↦ NoActionIndicated ] };
+    ghost says = { λ adds _. elim [
+      | NoActionIndicated ↦ NoActionIndicated
+      | RetryIndicated kind retry_after ↦ elim retry_after
+          [ None ↦ RetryIndicated kind (Some adds.nanos) | Some pause ↦ NoActionIndicated ]
+      | RetryForbidden ↦ NoActionIndicated
+    ] };
 
     fn name(&self) -> &str {
         "a pause"

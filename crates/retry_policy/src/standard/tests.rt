@@ -1,3 +1,4 @@
+//! Worked decisions: permits, attempts and tokens that run out.
 ghost use Rattle.std.specs.Prelude.{◌≡◌, Ok};
 
 use super::*;

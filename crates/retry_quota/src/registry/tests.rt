@@ -1,3 +1,4 @@
+//! Buckets and limiters by number and by partition.
 ghost use Rattle.std.specs.Prelude.{◌≡◌, None, Ok};
 
 use super::*;
@@ -94,13 +95,29 @@ fn sums<Q: Quota>(quota: &Q, bucket: u32) -> Option<[u64; 5]> {
     ])
 }
 
+fn bucket_number<Q: Quota>(
+    quota: &mut Q,
+    alloc: Global,
+    partition: &RetryPartition,
+) -> Result<u32, OutOfMemory> {
+    quota.bucket_for(alloc, partition, None)
+}
+
+fn limiter_number<Q: Quota>(
+    quota: &mut Q,
+    alloc: Global,
+    partition: &RetryPartition,
+) -> Result<u32, OutOfMemory> {
+    quota.limiter_for(alloc, partition, 0)
+}
+
 fn numbers<Q: Quota>(
     quota: &mut Q,
     alloc: Global,
     partition: &RetryPartition,
 ) -> Result<(u32, u32), OutOfMemory> {
-    let bucket = quota.bucket_for(alloc, partition, None)?;
-    let limiter = quota.limiter_for(alloc, partition, 0)?;
+    let bucket = bucket_number(quota, alloc, partition)?;
+    let limiter = limiter_number(quota, alloc, partition)?;
     Ok((bucket, limiter))
 }
 
@@ -144,16 +161,22 @@ fn custom_numbers(
     numbers(registry, alloc, &custom)
 }
 
+fn plain() -> TokenBucket {
+    TokenBucket::builder().capacity(20).build()
+}
+
+fn rewarded() -> TokenBucket {
+    TokenBucket::builder()
+        .capacity(10)
+        .success_reward(2000)
+        .build()
+}
+
 // A bucket of 20 tokens, and one of 10 with a reward of two tokens.
 fn two_buckets(alloc: Global) -> Result<Registry<FreeLimiter>, OutOfMemory> {
     let mut registry = Registry::new(alloc)?;
-    let plain = TokenBucket::builder().capacity(20).build();
-    let _ = registry.add_bucket(alloc, plain)?;
-    let rewarded = TokenBucket::builder()
-        .capacity(10)
-        .success_reward(2000)
-        .build();
-    let _ = registry.add_bucket(alloc, rewarded)?;
+    let _ = registry.add_bucket(alloc, plain())?;
+    let _ = registry.add_bucket(alloc, rewarded())?;
     Ok(registry)
 }
 
@@ -205,9 +228,14 @@ fn a_foreign_permit_changes_nothing(rt: HostRuntime) {
     }
 }
 
-fn limiter_replies(alloc: Global) -> Result<[Result<(), u64>; 2], OutOfMemory> {
-    let mut registry = Registry::<FreeLimiter>::new(alloc)?;
+fn one_limiter(alloc: Global) -> Result<Registry<FreeLimiter>, OutOfMemory> {
+    let mut registry = Registry::new(alloc)?;
     let _ = registry.add_limiter(alloc, FreeLimiter::zero())?;
+    Ok(registry)
+}
+
+fn limiter_replies(alloc: Global) -> Result<[Result<(), u64>; 2], OutOfMemory> {
+    let mut registry = one_limiter(alloc)?;
     registry.limiter_update(0, 5, true);
     registry.limiter_update(1, 5, true);
     Ok([

@@ -1,3 +1,4 @@
+//! A shared table keeps first values, also on two threads.
 use super::*;
 use std::test::Fail;
 use std::thread;

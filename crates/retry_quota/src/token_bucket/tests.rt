@@ -1,3 +1,4 @@
+//! Worked sums of a bucket.
 use super::*;
 use std::test::Fail;
 
