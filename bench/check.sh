@@ -8,16 +8,18 @@ trap 'rm -rf "$room"' EXIT
 
 [ -x "$program" ] || (cd "$top/crates/smithy_replay" && rt run) || exit 1
 
-# A script of so many attempts, each of which fails, with a delay behind each but the last.
+# A script of so many attempts, each of which fails, with a delay behind each but the last, and with
+# so many bytes in each body.
 retries() {
-    awk -v attempts="$1" 'BEGIN {
+    awk -v attempts="$1" -v length_of_body="$2" 'BEGIN {
+        for (i = 0; i < length_of_body; i++) body = body "x"
         printf "{\"fuel\":100000,\"input\":[1,\"x\"],\"output_kind\":1,\"error_kind\":2,\"answers\":["
         printf "[\"Configure Client\",[\"Layer\",[]]],[\"Configure Operation\",[\"Layer\",[]]],[\"Configure Final\",[\"Layer\",[]]],"
         printf "[\"Serialize\",[\"Request\",[\"GET\",\"/\",[],\"x\"]]],[\"Initial\",\"Go\"]"
         for (i = 1; i <= attempts; i++) {
             printf ",[\"Choose\",[\"Chosen\",\"noAuth\",[\"\",null],null,[],null]],[\"Endpoint\",[\"Endpoint\",[\"http://h\",[],null]]]"
             printf ",[\"Apply\",[\"Request\",[\"GET\",\"http://h/\",[],\"x\"]]],[\"Sign\",[\"Request\",[\"GET\",\"http://h/\",[],\"x\"]]]"
-            printf ",[\"Transmit\",[\"Response\",[503,[],\"\"]]],[\"Stream\",\"NotStreaming\"],[\"Body\",[\"Read\",\"\"]]"
+            printf ",[\"Transmit\",[\"Response\",[503,[],\"%s\"]]],[\"Stream\",\"NotStreaming\"],[\"Body\",[\"Read\",\"%s\"]]", body, body
             printf ",[\"Deserialize\",[\"Outcome\",[\"Failed\",[\"Connector\",\"Io\",\"x\"]]]]"
             if (i < attempts) printf ",[\"Decide\",[\"Delay\",1]],[\"Start Retry\",\"Started\"]"
         }
@@ -38,8 +40,8 @@ memory() {
 
 echo "| calls | print, bytes | instructions | a byte | memory, MB |"
 echo "|---|---|---|---|---|"
-for attempts in 10 850 4300; do
-    retries "$attempts" >"$room/run.json"
+for row in "10 0" "850 0" "4300 0" "4300 1300"; do
+    retries ${row} >"$room/run.json"
     "$program" replay <"$room/run.json" >"$room/print.txt"
     [ "$("$program" check <"$room/print.txt")" = '["yes"]' ] || exit 1
     calls=$(($(wc -l <"$room/print.txt") - 2))

@@ -25,7 +25,7 @@ use Rattle.run_grammar.specs.Production.{Production, Nothing, Work, ◌⨟◌, W
 use Rattle.run_grammar.specs.Words.{Word}
 use Rattle.run_grammar.specs.Laws.{EachFits}
 use Rattle.run_grammar.proofs.Paths.{fits_of}
-use Rattle.run_grammar.proofs.Outcomes.{Has, Unbegun, either_way, is_calm, kept_stands}
+use Rattle.run_grammar.proofs.Outcomes.{Unbegun, either_way, is_calm, kept_stands}
 use Rattle.run_grammar.proofs.OutcomeWords.{joined, worked_keeps}
 
 -- the questions that may come before the first grant is answered

@@ -1,6 +1,6 @@
 -- A configuration that fails ends the run.
 use Rattle.run_grammar.specs.declared.production.Test.TheVariants as tests
-use Rattle.std.proofs.Common.{Bool, true, false, cond, ℕ, Option, None, Some, List, [], ◌∷◌, ◌++◌, ◌≡◌, refl, sym, ap, ◌∙◌, subst, inl, inr}
+use Rattle.std.proofs.Common.{true, false, cond, ℕ, Option, None, Some, List, [], ◌∷◌, ◌++◌, ◌≡◌, refl, sym, ap, ◌∙◌, subst, inl, inr}
 use Rattle.smithy_types.specs.declared.hook.Hook.{Hook}
 use Rattle.smithy_types.specs.declared.hook.Hook.TheVariants as hooks
 use Rattle.smithy_types.specs.declared.kinds.Phase.{Phase}
@@ -11,8 +11,6 @@ use Rattle.smithy_context.specs.declared.intercept.Change.{Change}
 use Rattle.smithy_context.specs.declared.intercept.Change.TheVariants as changes
 use Rattle.run_grammar.specs.declared.kind.ConfigureStage.{ConfigureStage}
 use Rattle.run_grammar.specs.declared.kind.ConfigureStage.TheVariants as stages
-use Rattle.run_grammar.specs.declared.kind.Role.TheVariants as roles
-use Rattle.run_grammar.specs.declared.kind.Kind.{Kind}
 use Rattle.run_grammar.specs.declared.kind.Kind.TheVariants as kinds
 use Rattle.run_grammar.specs.declared.answer.Answer.{Answer}
 use Rattle.run_grammar.specs.declared.answer.Answer.TheVariants as answers
@@ -31,7 +29,6 @@ use Rattle.run_grammar.specs.Grammar.{configured, run}
 use Rattle.run_grammar.specs.Laws.{EachFits}
 use Rattle.run_grammar.specs.Finals.{is_configure, is_layer}
 use Rattle.run_grammar.specs.Refusals.{FailedUnmade, ConfigurationsEnd}
-use Rattle.run_grammar.proofs.Spots.{standing-append}
 use Rattle.run_grammar.proofs.CaseProofs.{Ends, body}
 use Rattle.run_grammar.proofs.Outcomes.{either_way}
 use Rattle.run_grammar.proofs.Avoiding.{Avoids, Aside, avoids, word_avoids}

@@ -1,6 +1,6 @@
 -- What a grant leaves: that of the first attempt, and the token of a further one.
 use Rattle.run_grammar.specs.declared.production.Test.TheVariants as tests
-use Rattle.std.proofs.Common.{Bool, true, false, cond, zero, suc, ℕ, List, [], ◌∷◌, ◌≡◌, ◌⊎◌, refl, sym, ap, ◌∙◌, subst, inl, inr, arith}
+use Rattle.std.proofs.Common.{Bool, true, false, cond, zero, suc, ℕ, List, ◌≡◌, ◌⊎◌, refl, sym, subst, inl, inr, arith}
 use Rattle.smithy_types.specs.declared.payload.Payload.{Payload}
 use Rattle.run_grammar.specs.declared.kind.Role.{Role}
 use Rattle.run_grammar.specs.declared.kind.Role.TheVariants as roles
@@ -20,7 +20,7 @@ use Rattle.run_grammar.specs.Laws.{EachFits}
 use Rattle.run_grammar.proofs.Spots.{standing-append}
 use Rattle.run_grammar.proofs.Paths.{fits_of}
 use Rattle.run_grammar.proofs.Outcomes.{Has, Unbegun, granted_stands, token_stands, sent_stands}
-use Rattle.run_grammar.proofs.OutcomeWords.{Stood, Sound, Keeps, Gives, Carries, answered_holds, answered_from, sound_on, joined, keeps_nothing}
+use Rattle.run_grammar.proofs.OutcomeWords.{Stood, Sound, Keeps, Gives, answered_holds, answered_from, sound_on, joined, keeps_nothing}
 use Rattle.run_grammar.proofs.Beginnings.{Unbegins, early, uncut, unbegun_on}
 use Rattle.run_grammar.proofs.RunLeaves.{Early, begins_sound}
 

@@ -4,7 +4,7 @@ use Rattle.smithy_types.specs.declared.hook.Hook.{Hook}
 use Rattle.smithy_context.specs.declared.intercept.Change.{Change}
 use Rattle.smithy_context.specs.declared.intercept.Change.TheVariants as changes
 use Rattle.smithy_context.specs.declared.layer.LayerEntry.{LayerEntry}
-use Rattle.smithy_context.specs.Hooks.{may_write, with_change, written, writes_input, writes_request, writes_response, writes_outcome}
+use Rattle.smithy_context.specs.Hooks.{with_change, written, writes_input, writes_request, writes_response, writes_outcome}
 use Rattle.smithy_context.specs.Settings.{with_merged}
 use Rattle.run_grammar.specs.declared.standing.Standing.{Standing}
 use Rattle.run_grammar.specs.Change.{hook_failed, merged_into, with_view, with_input, with_request, with_response, with_outcome, written_by}

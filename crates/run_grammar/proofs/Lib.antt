@@ -17,6 +17,7 @@ pub mod RunLeaves
 pub mod Grants
 pub mod OutcomeProofs
 pub mod Requests
+pub mod Sendings
 pub mod RequestProofs
 pub mod Watch
 pub mod Watching

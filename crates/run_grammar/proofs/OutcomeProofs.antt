@@ -1,12 +1,11 @@
 -- At the end of a whole run without a stop point an outcome stands.
 use Rattle.run_grammar.specs.declared.production.Test.TheVariants as tests
-use Rattle.std.proofs.Common.{Bool, true, false, cond, zero, suc, ℕ, is_some, List, [], ◌∷◌, ◌≡◌, ◌⊎◌, refl, sym, subst, inl, inr, arith}
+use Rattle.std.proofs.Common.{true, false, cond, is_some, List, [], ◌∷◌, ◌≡◌, ◌⊎◌, refl, sym, subst, inl, inr}
 use Rattle.smithy_types.specs.declared.hook.Hook.{Hook}
 use Rattle.smithy_types.specs.declared.hook.Hook.TheVariants as hooks
 use Rattle.smithy_types.specs.declared.kinds.StopPoint.TheVariants as stops
 use Rattle.run_grammar.specs.declared.kind.Role.{Role}
 use Rattle.run_grammar.specs.declared.kind.Role.TheVariants as roles
-use Rattle.run_grammar.specs.declared.kind.Kind.{Kind}
 use Rattle.run_grammar.specs.declared.kind.Kind.TheVariants as kinds
 use Rattle.run_grammar.specs.declared.answer.Entry.{Entry}
 use Rattle.run_grammar.specs.Entry.{kind_of, pending, can_wait, is_pending}
@@ -14,16 +13,16 @@ use Rattle.run_grammar.specs.Question.{nanos_of}
 use Rattle.run_grammar.specs.Fits.{fits}
 use Rattle.run_grammar.specs.Change.{changed}
 use Rattle.run_grammar.specs.Standing.{State, standing, step}
-use Rattle.run_grammar.specs.Production.{Production, Nothing, Work, ◌⨟◌, Where, Again, InAttempt, Ended}
-use Rattle.run_grammar.specs.Words.{Word, RoundsOf}
+use Rattle.run_grammar.specs.Production.{Production, Nothing, Work, ◌⨟◌, Where, InAttempt, Ended}
+use Rattle.run_grammar.specs.Words.{Word}
 use Rattle.run_grammar.specs.Grammar.{hook, halted, arm, armed, opening, sending, streaming, attempt, settle, turn, again, round, loop, front, grant, op, finish, run}
-use Rattle.run_grammar.specs.Tests.{answers_delay, answers_go, answers_started, answers_not_streaming, answers_read, answers_decided_yes, is_start_of, failed, delayed, went, started, not_streaming, body_read, decided_yes, decided_delay, checkpoint_stands, timeout_stands}
+use Rattle.run_grammar.specs.Tests.{answers_started, answers_not_streaming, answers_read, answers_decided_yes, is_start_of, went, started, not_streaming, body_read, decided_yes, checkpoint_stands}
 use Rattle.run_grammar.specs.Laws.{EachFits}
 use Rattle.run_grammar.specs.Outcomes.{OutcomeStands}
 use Rattle.run_grammar.proofs.Spots.{standing-append}
 use Rattle.run_grammar.proofs.Paths.{fits_of}
 use Rattle.run_grammar.proofs.Outcomes.{Has, is_calm, deserialized, decided_stands, retried_stands, streamed_stands, read_stands}
-use Rattle.run_grammar.proofs.OutcomeWords.{Stood, Sound, Keeps, Gives, LeavesFrom, answered_holds, answered_from, sound_on, joined, stood_covers, leaves_work, leaves_after, from_after, from_halt, keeps_nothing, keeps_work, keeps_then, keeps_where, gives_halt, gives_in_attempt, gives_rounds, carries_sound}
+use Rattle.run_grammar.proofs.OutcomeWords.{Stood, Sound, Keeps, Gives, LeavesFrom, answered_from, sound_on, joined, stood_covers, leaves_work, leaves_after, from_after, from_halt, keeps_nothing, keeps_work, keeps_then, keeps_where, gives_halt, gives_in_attempt, gives_rounds, carries_sound}
 use Rattle.run_grammar.proofs.Grants.{Fresh, Gone, by_answer, by_one_answer, otherwise, no_choice, unless, early_fresh, begins_fresh, first_granted, gives_again}
 use Rattle.run_grammar.proofs.RunLeaves.{behind_whole, from_armed, leaves_run}
 

@@ -13,7 +13,6 @@ use Rattle.run_grammar.specs.Change.{changed}
 use Rattle.run_grammar.specs.Standing.{State, standing, start, step}
 use Rattle.run_grammar.specs.Production.{Production, Nothing, Work, ◌⨟◌, Where}
 use Rattle.run_grammar.specs.Grammar.{hook, halted, arm, settle, loop, front, grant, op, finish, run}
-use Rattle.run_grammar.specs.Tests.{failed, load_body, went}
 use Rattle.run_grammar.specs.Outcomes.{RequestOrOutcomeStands}
 use Rattle.run_grammar.proofs.Requests.{HasEither, serialized, either_stands}
 use Rattle.run_grammar.proofs.OutcomeWords.{Sound, Carries, Leaves, Covers, leaves_work, leaves_then, leaves_after, leaves_halt}

@@ -15,7 +15,7 @@ use Rattle.run_grammar.specs.declared.answer.Entry.{Entry}
 use Rattle.run_grammar.specs.Standing.{State, standing, start}
 use Rattle.run_grammar.specs.Production.{Production, Nothing, Work, ◌⨟◌, Where, Under}
 use Rattle.run_grammar.specs.Grammar.{hook, arm, armed, settle, op, finish, configured, run}
-use Rattle.run_grammar.specs.Tests.{failed, started, failure_stands}
+use Rattle.run_grammar.specs.Tests.{failed, failure_stands}
 use Rattle.run_grammar.specs.Laws.{IsWhole}
 use Rattle.run_grammar.proofs.Outcomes.{is_deadline}
 use Rattle.run_grammar.proofs.OutcomeWords.{Stood, Sound, Carries, LeavesFrom, Covers, carries_then, carries_sound, from_then, from_after, from_where, from_unless, from_halt, from_under}

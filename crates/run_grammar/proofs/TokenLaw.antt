@@ -1,7 +1,7 @@
 -- Under Retry Behavior 2.1 each attempt stands behind the answer to a grant of its own.
 use Rattle.run_grammar.specs.declared.production.Test.{Test}
 use Rattle.run_grammar.specs.declared.production.Test.TheVariants as tests
-use Rattle.std.proofs.Common.{Bool, true, false, cond, not, ℕ, zero, suc, Option, None, Some, List, [], ◌∷◌, ◌++◌, ◌≡◌, refl, sym, ap, ◌∙◌, subst, inl, inr}
+use Rattle.std.proofs.Common.{Bool, true, false, cond, ℕ, zero, suc, Option, None, Some, List, [], ◌∷◌, ◌++◌, ◌≡◌, refl, sym, ap, ◌∙◌, subst, inl, inr}
 use Rattle.smithy_types.specs.declared.hook.Hook.TheVariants as hooks
 use Rattle.smithy_types.specs.declared.kinds.StopPoint.{StopPoint}
 use Rattle.smithy_types.specs.declared.kinds.StopPoint.TheVariants as stops
@@ -14,22 +14,21 @@ use Rattle.run_grammar.specs.declared.answer.Answer.{Answer}
 use Rattle.run_grammar.specs.declared.answer.Answer.TheVariants as answers
 use Rattle.run_grammar.specs.declared.answer.Entry.{Entry}
 use Rattle.run_grammar.specs.declared.standing.Standing.{Standing}
-use Rattle.run_grammar.specs.Entry.{kind_of, same_role, abandon_of}
+use Rattle.run_grammar.specs.Entry.{kind_of, same_role}
 use Rattle.run_grammar.specs.Question.{nanos_of}
 use Rattle.run_grammar.specs.Fits.{fits}
 use Rattle.run_grammar.specs.Change.{changed, needs_token}
 use Rattle.run_grammar.specs.Standing.{State, standing, start, step}
-use Rattle.run_grammar.specs.Tests.{holds, of_last, answers_go, answers_go_or_no, failure_stands, started, timeout_stands, token_needed, went, went_on}
+use Rattle.run_grammar.specs.Tests.{holds, of_last, answers_go, answers_go_or_no, started, timeout_stands, token_needed, went, went_on}
 use Rattle.run_grammar.specs.Production.{Production, Nothing, Work, ◌⨟◌, Where, Rounds, Again, InAttempt, Under, End, Ended, Further, CutBy}
-use Rattle.run_grammar.specs.Words.{Word, WaitsOf, Struck, Idle, AfterIdles, Answered, CutOnce, RoundsOf, ScopeEnds, marked}
-use Rattle.run_grammar.specs.Grammar.{hook, halted, arm, armed, opening, sending, streaming, attempt, settle, turn, again, round, loop, front, grant_round, grant, op, finish, configured, run}
+use Rattle.run_grammar.specs.Words.{Word, RoundsOf, ScopeEnds, marked}
+use Rattle.run_grammar.specs.Grammar.{hook, halted, arm, armed, opening, sending, streaming, attempt, settle, turn, again, round, loop, front, grant, op, finish, configured, run}
 use Rattle.run_grammar.specs.Laws.{EachFits}
 use Rattle.run_grammar.specs.Attempts.{begins_attempt}
-use Rattle.run_grammar.specs.Tokens.{arms_attempt, last_but_arming, HasToken, TokensStand}
+use Rattle.run_grammar.specs.Tokens.{arms_attempt, last_but_arming, TokensStand}
 use Rattle.run_grammar.proofs.Spots.{standing-append}
 use Rattle.run_grammar.proofs.Paths.{fits_of}
 use Rattle.run_grammar.proofs.Finishing.{closed}
-use Rattle.run_grammar.proofs.Closed.{attempt_closed, armed_closed}
 use Rattle.run_grammar.proofs.Watch.{both}
 use Rattle.run_grammar.proofs.Avoiding.{Avoids, Aside, avoids, avoids_scope, word_avoids}
 use Rattle.run_grammar.proofs.Watching.{answered_alone}

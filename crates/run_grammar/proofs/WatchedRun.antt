@@ -2,7 +2,7 @@
 use Rattle.run_grammar.specs.declared.production.Test.{Test}
 use Rattle.run_grammar.specs.Tests.{holds}
 use Rattle.run_grammar.specs.declared.production.Test.TheVariants as tests
-use Rattle.std.proofs.Common.{Bool, true, false, cond, ℕ, zero, suc, List, [], ◌∷◌, ◌++◌, ◌≡◌, ◌⊎◌, refl, sym, ap, ◌∙◌, subst, inl, inr}
+use Rattle.std.proofs.Common.{true, false, cond, ℕ, zero, suc, List, [], ◌∷◌, ◌++◌, ◌≡◌, ◌⊎◌, refl, sym, ap, ◌∙◌, subst, inl, inr}
 use Rattle.smithy_types.specs.declared.hook.Hook.TheVariants as hooks
 use Rattle.smithy_types.specs.declared.kinds.StopPoint.{StopPoint}
 use Rattle.smithy_types.specs.declared.kinds.StopPoint.TheVariants as stops
@@ -14,7 +14,7 @@ use Rattle.run_grammar.specs.Standing.{State, standing}
 use Rattle.run_grammar.specs.Production.{Production, Nothing, Work, ◌⨟◌, Where, InAttempt, Under, End, Ended, Further, CutBy}
 use Rattle.run_grammar.specs.Words.{Word, ScopeEnds, RoundsOf, marked, is_ended}
 use Rattle.run_grammar.specs.Grammar.{hook, halted, arm, armed, opening, sending, streaming, attempt, settle, turn, round, loop, front, grant, op, finish, configured, run}
-use Rattle.run_grammar.specs.Tests.{timeout_stands, failed, failure_stands, started, went}
+use Rattle.run_grammar.specs.Tests.{timeout_stands, failed, failure_stands, started}
 use Rattle.run_grammar.specs.Laws.{IsRun}
 use Rattle.run_grammar.proofs.Spots.{not_ended}
 use Rattle.run_grammar.proofs.CaseProofs.{Ends, body, config_halting}

@@ -1,25 +1,16 @@
 -- The phase grammar of a run. A name in brackets is the function or macro of the Rust crate's
 -- orchestrator.rs from which the rule below it comes, where no other file is named.
 use Rattle.run_grammar.specs.declared.production.Test.TheVariants as tests
-use Rattle.std.specs.Prelude.{Bool, true, false, Option, None, Some, is_some, cond, List, [], ◌∷◌}
+use Rattle.std.specs.Prelude.{List, [], ◌∷◌}
 use Rattle.run_grammar.specs.declared.kind.Role.{Role}
 use Rattle.smithy_types.specs.declared.hook.Hook.{Hook}
-use Rattle.run_grammar.specs.declared.kind.Kind.{Kind}
-use Rattle.run_grammar.specs.declared.answer.Answer.{Answer}
-use Rattle.run_grammar.specs.declared.answer.Entry.{Entry}
 use Rattle.smithy_types.specs.declared.kinds.StopPoint.{StopPoint}
-use Rattle.run_grammar.specs.Entry.{kind_of, fails, same_role}
-use Rattle.run_grammar.specs.Standing.{State}
 use Rattle.run_grammar.specs.Production.{Production, Nothing, Work, ◌⨟◌, Where, Rounds, Again, InAttempt, Under}
 use Rattle.run_grammar.specs.declared.kind.Kind.TheVariants as kinds
 use Rattle.run_grammar.specs.declared.kind.Role.TheVariants as roles
 use Rattle.run_grammar.specs.declared.kind.ConfigureStage.TheVariants as stages
-use Rattle.run_grammar.specs.declared.answer.Answer.TheVariants as answers
 use Rattle.smithy_types.specs.declared.hook.Hook.TheVariants as hooks
 use Rattle.smithy_types.specs.declared.kinds.StopPoint.TheVariants as stops
-use Rattle.smithy_types.specs.declared.notes.Choice.TheVariants as choices
-use Rattle.smithy_context.specs.Failures.{is_failure}
-use Rattle.run_grammar.specs.Change.{loads_body, nanos_for}
 
 -- the grammar
 abbrev pub hook : Hook → Production

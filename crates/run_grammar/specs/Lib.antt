@@ -15,6 +15,7 @@ pub mod Finals
 pub mod Outcomes
 pub mod Scopes
 pub mod Tokens
+pub mod Sendings
 pub mod Refusals
 pub mod Breaks
 pub mod Samples

@@ -1,5 +1,5 @@
 -- Sample runs under Retry Behavior 2.1: what each is, call by call, and what it comes to.
-use Rattle.std.specs.Prelude.{ℕ, Option, None, Some, List, [], ◌∷◌, ◌++◌}
+use Rattle.std.specs.Prelude.{ℕ, Option, None, Some, List, ◌∷◌, ◌++◌}
 use Rattle.smithy_types.specs.declared.config.RetryConfig.{RetryConfig}
 use Rattle.smithy_types.specs.declared.config.RetrySpec.{RetrySpec}
 use Rattle.smithy_types.specs.declared.config.RetrySpecVersion.TheVariants as versions

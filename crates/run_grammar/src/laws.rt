@@ -16,6 +16,7 @@ ghost use Rattle.run_grammar.specs.Finals.{FinalizersOnce};
 ghost use Rattle.run_grammar.specs.Scopes.{AttemptScopesEnd, OperationScopesEnd};
 ghost use Rattle.run_grammar.specs.Refusals.{ConfigurationsEnd};
 ghost use Rattle.run_grammar.specs.Tokens.{TokensStand};
+ghost use Rattle.run_grammar.specs.Sendings.{TransmitsHaveRequests};
 
 /// A list is a run exactly where the machine that takes one entry at a time accepts it.
 pub fn runs_are_accepted()
@@ -112,4 +113,10 @@ pub fn configurations_end()
 #[tactic(auto, using(crate::proofs::HookLaw::hook_row))]
 pub fn a_hook_leaves_what_its_chain_shows()
     ensures { HookRow }
+{}
+
+/// In a list that begins a run each Transmit is handed a request: nothing is sent that no
+/// serializer made.
+pub fn transmits_have_requests()
+    ensures { TransmitsHaveRequests }
 {}

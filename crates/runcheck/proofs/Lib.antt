@@ -2,3 +2,4 @@ pub mod Lines
 pub mod Stopped
 pub mod Depths
 pub mod Readable
+pub mod Transmits

@@ -2,6 +2,7 @@
 #![tactic(auto)]
 
 pub mod due;
+pub mod laws;
 pub mod places;
 pub mod polls;
 pub mod scripted_fleet;

@@ -1,5 +1,5 @@
 //! What lies under the lock, and what a caller that has the lock makes of it.
-ghost use Rattle.std.specs.Prelude.{◌≡◌, ◌+◌, ◌^◌, ◌<◌, ◌≤◌, IfSome, option_map};
+ghost use Rattle.std.specs.Prelude.{◌≡◌, ◌+◌, ◌-◌, ◌^◌, ◌<◌, ◌≤◌, IfSome, min, option_map};
 ghost use Rattle.std.specs.Option.{IfNone};
 ghost use Rattle.retry_quota.specs.History.{
   after,
@@ -85,6 +85,7 @@ impl<L: Ledger> Locked<L> {
         ensures refused { IfNone result (share.new.amount ≡ share.old.amount) }
         ensures parts { share.new.parts ≡ share.old.parts }
         ensures fits { share.new.amount < 2 ^ 64 }
+        ensures counted { self.new.steps ≡ min (self.old.steps + 1) (2 ^ 64 - 1) }
     {
         let Locked {
             capacity,
@@ -109,6 +110,7 @@ impl<L: Ledger> Locked<L> {
             after (Release permit.amount) (locked_book terms.now self.old.capacity self.old.state) }
         ensures amount { share.new.amount + permit.amount ≡ share.old.amount }
         ensures parts { share.new.parts ≡ share.old.parts }
+        ensures counted { self.new.steps ≡ min (self.old.steps + 1) (2 ^ 64 - 1) }
     {
         let Locked {
             capacity,
@@ -131,6 +133,7 @@ impl<L: Ledger> Locked<L> {
             after (Forget permit.amount) (locked_book terms.now self.old.capacity self.old.state) }
         ensures amount { share.new.amount + permit.amount ≡ share.old.amount }
         ensures parts { share.new.parts ≡ share.old.parts }
+        ensures counted { self.new.steps ≡ min (self.old.steps + 1) (2 ^ 64 - 1) }
     {
         let Locked {
             capacity,
@@ -148,8 +151,9 @@ impl<L: Ledger> Locked<L> {
     }
 
     pub fn reward_success(&mut self, terms: &BucketTerms)
-        ensures { locked_book terms.now self.new.capacity self.new.state ≡
+        ensures book { locked_book terms.now self.new.capacity self.new.state ≡
             after Reward (locked_book terms.now self.old.capacity self.old.state) }
+        ensures counted { self.new.steps ≡ min (self.old.steps + 1) (2 ^ 64 - 1) }
     {
         let mut bucket = taken(terms, self.capacity, &self.state);
         bucket.reward_success();
@@ -158,8 +162,9 @@ impl<L: Ledger> Locked<L> {
     }
 
     pub fn regenerate_a_token(&mut self, terms: &BucketTerms)
-        ensures { locked_book terms.now self.new.capacity self.new.state ≡
+        ensures book { locked_book terms.now self.new.capacity self.new.state ≡
             after Regenerate (locked_book terms.now self.old.capacity self.old.state) }
+        ensures counted { self.new.steps ≡ min (self.old.steps + 1) (2 ^ 64 - 1) }
     {
         let mut bucket = taken(terms, self.capacity, &self.state);
         steps::regenerate_a_token(&mut bucket);
@@ -171,6 +176,7 @@ impl<L: Ledger> Locked<L> {
         ensures book { locked_book terms.now self.new.capacity self.new.state ≡
             after Convert (locked_book terms.now self.old.capacity self.old.state) }
         ensures full { result ≡ is_full (locked_book terms.now self.new.capacity self.new.state) }
+        ensures uncounted { self.new.steps ≡ self.old.steps }
     {
         let mut bucket = taken(terms, self.capacity, &self.state);
         let full = steps::is_full(&mut bucket);
@@ -182,6 +188,7 @@ impl<L: Ledger> Locked<L> {
         ensures book { locked_book terms.now self.new.capacity self.new.state ≡
             after Convert (locked_book terms.now self.old.capacity self.old.state) }
         ensures empty { result ≡ is_empty (locked_book terms.now self.new.capacity self.new.state) }
+        ensures uncounted { self.new.steps ≡ self.old.steps }
     {
         let mut bucket = taken(terms, self.capacity, &self.state);
         let empty = steps::is_empty(&mut bucket);
@@ -201,6 +208,7 @@ impl<L: Ledger> Locked<L> {
         ensures amount { share.new.amount ≡ share.old.amount }
         ensures parts { share.new.parts ≡ share.old.parts }
         ensures same { (self.new.capacity ≡ self.old.capacity) × (self.new.state ≡ self.old.state) }
+        ensures uncounted { self.new.steps ≡ self.old.steps }
     {
         self.tokens.audit(share);
         Sums {

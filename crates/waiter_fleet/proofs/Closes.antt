@@ -22,7 +22,7 @@ use Rattle.waiter_fleet.specs.Fleet.{Behind, EndsBy, GoesOn, MayEnd, MayPoll, ve
 use Rattle.waiter_fleet.specs.Seats.{Polled, Rests, Seated, TurnsOver, plan_of}
 use Rattle.waiter_fleet.specs.Steps.{Halts, Origin, Spends, Stands, StaysOn}
 use Rattle.waiter_fleet.proofs.Others.{eq_self, others-more, others-none}
-use Rattle.waiter_fleet.proofs.Standing.{halts-beyond, spends-append, spends-none, spends-one, stands-act}
+use Rattle.waiter_fleet.proofs.Standing.{halts-beyond, no_ask, spends-append, spends-none, spends-one, stands-act}
 
 -- a poll that was answered and the clock behind it
 pub spends-poll : {T : Type 0} (does : T → FleetCall → T → Type 0) {old mid : T} {full left : ℕ} (new : T) (waiter times number moment : ℕ) (seen : Seen) (state : AcceptorState) →
@@ -92,7 +92,7 @@ module _ {T : Type 0} (does : T → FleetCall → T → Type 0) (o : Origin T) (
         acts = closing ∷ poll ∷ acts;
         stands = stands-act does o start (poll ∷ acts) (End waiter ending) 0 0 one.stands
             (may_end o.plans o.book start (events_of acts) waiter (plan_of was.backoff) seated.planned was.number found.moment one.seen one.state ending so)
-            (spends-none does world left) refl same;
+            (spends-none does world left) refl same no_ask;
         seated = record {
           planned = seated.planned ∙ ap (λ b. Some (plan_of b)) (sym backoff);
           numbered = rw test (omega arith);
@@ -135,7 +135,7 @@ module _ {T : Type 0} (does : T → FleetCall → T → Type 0) (o : Origin T) (
           stands = stands-act does o start (poll ∷ acts) (Sleep waiter nanos found.elapsed word) 0 sleep one.stands
               (behind o.plans o.book start (events_of acts) waiter (plan_of was.backoff) seated.planned was.number found.moment one.seen one.state
               (λ plan used count passed verdict. (found.elapsed ≡ passed) × GoesOn plan used count passed verdict word nanos) (one.elapsed, goes))
-              (record { made = chain; spent = spent-resting nanos word sleep left }) refl same;
+              (record { made = chain; spent = spent-resting nanos word sleep left }) refl same no_ask;
           seated = record {
             planned = seated.planned ∙ ap (λ b. Some (plan_of b)) (sym backoff);
             numbered = rw test (omega arith);
@@ -173,7 +173,7 @@ polled-found does o start waiter acts seat found times seen state events new sta
   seen = seen;
   state = state;
   stands = stands-act does o start acts (Poll waiter seat.number found.moment seen state) times 0 stands may
-      (spends-poll does new waiter times seat.number found.moment seen state asked clock) refl logged;
+      (spends-poll does new waiter times seat.number found.moment seen state asked clock) refl logged no_ask;
   elapsed = elapsed;
   ending = ending;
 }

@@ -94,6 +94,7 @@ waits-over does count o start {seats} {logged} {book} {world} {left} events coun
       kept = λ answers moment keeps.
           keeps-made does answers moment keeps.notes keeps.tells o start over.acts over.rest o.world world over.is_rest over.kept.spends.made;
       within = omega (arith, spent);
+      funded = over.kept.funded;
       all_spent = λ waiter numbered waits. elim over.why [
         | inl ended_all ↦ let clash = ended_all waiter numbered in absurd (cc (sym clash ∙ waits))
         | inr none ↦ omega (arith, spent, none)

@@ -12,7 +12,9 @@ pub mod Queues
 pub mod Runs
 pub mod Seatings
 pub mod Standing
+pub mod Steady
 pub mod Walkings
 pub mod Charges
 pub mod Closings
+pub mod Determined
 pub mod Spelling

@@ -105,8 +105,8 @@ module _ {T : Type 0} (does : T → FleetCall → T → Type 0) (answers : T →
   rest-kept : (o : Origin T) (start : ℕ) (acts : List Act) (rest : List FleetCall) (old new : T) → Rest does o start acts rest → Chained does old rest new →
       (last : List FleetAnswer) × Wakes last × (answers new ≡ answers old ++ last)
   rest-kept o start acts rest old new (unpolled waiter times turn paid) made = ([], inl refl, unanswered-kept waiter times old new made)
-  rest-kept o start acts rest old new (asleep waiter sleep times turn is) made = ([], inl refl, unready-kept sleep times old new made)
-  rest-kept o start acts rest old new (awoken waiter times turn) made = awaited-kept (open_sleep waiter acts) times old new made
+  rest-kept o start acts rest old new (asleep waiter sleep times turn unpaid is) made = ([], inl refl, unready-kept sleep times old new made)
+  rest-kept o start acts rest old new (awoken waiter times turn unpaid) made = awaited-kept (open_sleep waiter acts) times old new made
 
   any_rest-kept : (o : Origin T) (start : ℕ) (acts : List Act) (rest : List FleetCall) (old new : T) → (rest ≡ []) ⊎ Rest does o start acts rest →
       Chained does old rest new → (last : List FleetAnswer) × Wakes last × (answers new ≡ answers old ++ last)

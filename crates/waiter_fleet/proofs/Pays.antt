@@ -20,7 +20,7 @@ use Rattle.waiter_fleet.specs.Paying.{AsksFor, IsCharged, IsRefused, PayEnds, Re
 use Rattle.waiter_fleet.specs.Seats.{IsReady, Seated}
 use Rattle.waiter_fleet.specs.Steps.{Halts, Origin, Rest, RunsOut, Spends, Stands, asked, asleep, awoken, wake_calls}
 use Rattle.waiter_fleet.proofs.Others.{eq_self, others-more, others-none}
-use Rattle.waiter_fleet.proofs.Standing.{kept-act, kept-halts, runs_out, spends-append, spends-none, spends-one, stands-act}
+use Rattle.waiter_fleet.proofs.Standing.{kept-act, kept-halts, no_ask, runs_out, spends-append, spends-none, spends-one, stands-act}
 
 -- no event changes the cost
 cost-with : (cost : ℕ) (event : FleetEvent) (book : Book) → cost_of ServerError (book_with cost event book) ≡ cost_of ServerError book
@@ -47,30 +47,29 @@ turn-charged count start before waiter one moment turn = record {
 }
 
 module _ {T : Type 0} (does : T → FleetCall → T → Type 0) (o : Origin T) (start : ℕ) (acts : List Act) (waiter : ℕ) where
-  rest-asleep : (sleep : Option ℕ) (times : ℕ) → IsTurnOf (length o.plans) start (events_of acts) waiter → sleep ≡ open_sleep waiter acts →
-      Rest does o start acts (wake_calls sleep times false)
-  rest-asleep None times turn is =
+  rest-asleep : (sleep : Option ℕ) (times : ℕ) → AsksFor o start acts waiter sleep → Rest does o start acts (wake_calls sleep times false)
+  rest-asleep None times asks =
       let P : Option ℕ → Type 0 = λ one. Rest does o start acts (awaited one times) in
-      subst P (sym is) (awoken waiter times turn)
-  rest-asleep (Some sleep) times turn is = asleep waiter sleep times turn (sym is)
+      subst P (sym asks.is_open) (awoken waiter times asks.turn asks.unpaid)
+  rest-asleep (Some sleep) times asks = asleep waiter sleep times asks.turn asks.unpaid (sym asks.is_open)
 
-  rest-awoken : (sleep : Option ℕ) (times : ℕ) → IsTurnOf (length o.plans) start (events_of acts) waiter → sleep ≡ open_sleep waiter acts →
-      Rest does o start acts (awaited sleep times)
-  rest-awoken sleep times turn is =
+  rest-awoken : (sleep : Option ℕ) (times : ℕ) → AsksFor o start acts waiter sleep → Rest does o start acts (awaited sleep times)
+  rest-awoken sleep times asks =
       let P : Option ℕ → Type 0 = λ one. Rest does o start acts (awaited one times) in
-      subst P (sym is) (awoken waiter times turn)
+      subst P (sym asks.is_open) (awoken waiter times asks.turn asks.unpaid)
 
   module _ {events : List FleetEvent} {book : Book} {old mid : T} {full left : ℕ} (sleep : Option ℕ) (times : ℕ)
       (stands : Stands does o start acts events book old full) (asks : AsksFor o start acts waiter sleep) where
     -- the fuel was spent before the sleep was over,
     pub pays-asleep : Spends does old full (wake_calls sleep times false) mid left → left ≡ 0 → RunsOut does o start acts events book mid left
-    pays-asleep woke spent = runs_out does o start stands woke (rest-asleep sleep times asks.turn asks.is_open) asks.settled spent
+    pays-asleep woke spent = runs_out does o start stands woke (rest-asleep sleep times asks) asks.settled spent
 
     -- or just then
     pub pays-awoken : Spends does old full (awaited sleep times) mid left → left ≡ 0 → RunsOut does o start acts events book mid left
-    pays-awoken woke spent = runs_out does o start stands woke (rest-awoken sleep times asks.turn asks.is_open) asks.settled spent
+    pays-awoken woke spent = runs_out does o start stands woke (rest-awoken sleep times asks) asks.settled spent
 
-    module _ {new : T} (moment : ℕ) (woke : Spends does old full (awaited sleep times) mid left) (clock : does mid (timed (Now moment)) new) where
+    module _ {new : T} (moment : ℕ) (woke : Spends does old full (awaited sleep times) mid left) (clock : does mid (timed (Now moment)) new)
+        (spare : left ≢ 0) where
       -- the calls of an ask
       asks-calls : Spends does old full (awaited (open_sleep waiter acts) times ++ timed (Now moment) ∷ []) new left
       asks-calls =
@@ -93,7 +92,7 @@ module _ {T : Type 0} (does : T → FleetCall → T → Type 0) (o : Origin T) (
           later ≡ asked (moment / second) true book → Halts does o start later new
       halts-charged later granted is =
           kept-halts does o start (kept-act does o start acts (Charged waiter moment) times 0 stands.kept (may_ask true granted) asks-calls
-          (is ∙ ap (λ cost. after (Forget cost) (after (Acquire ServerError (moment / second)) book)) same_cost))
+          (is ∙ ap (λ cost. after (Forget cost) (after (Acquire ServerError (moment / second)) book)) same_cost) (λ ask. spare))
 
       pub pays-charged : (later : Book) (logged : List FleetEvent) → true ≡ is_granted ServerError (moment / second) book →
           later ≡ asked (moment / second) true book → logged ≡ events ++ Charged waiter moment ∷ [] →
@@ -102,7 +101,7 @@ module _ {T : Type 0} (does : T → FleetCall → T → Type 0) (o : Origin T) (
         times = times;
         moment = moment;
         stands = stands-act does o start acts (Charged waiter moment) times 0 stands (may_ask true granted) asks-calls
-            (is ∙ ap (λ cost. after (Forget cost) (after (Acquire ServerError (moment / second)) book)) same_cost) same;
+            (is ∙ ap (λ cost. after (Forget cost) (after (Acquire ServerError (moment / second)) book)) same_cost) same (λ ask. spare);
       }
 
       refused_cost : (cost : ℕ) (later : Book) → later ≡ asked (moment / second) false book → cost ≡ cost_of ServerError later →
@@ -114,7 +113,7 @@ module _ {T : Type 0} (does : T → FleetCall → T → Type 0) (o : Origin T) (
           later ≡ asked (moment / second) false book → cost ≡ cost_of ServerError later → Halts does o start later new
       halts-refused cost later refused is is_cost =
           kept-halts does o start (kept-act does o start acts (Refused waiter cost moment) times 0 stands.kept
-          (may_ask false refused, refused_cost cost later is is_cost) asks-calls is)
+          (may_ask false refused, refused_cost cost later is is_cost) asks-calls is (λ ask. spare))
 
       pub pays-refused : (cost : ℕ) (later : Book) (logged : List FleetEvent) → false ≡ is_granted ServerError (moment / second) book →
           later ≡ asked (moment / second) false book → cost ≡ cost_of ServerError later →
@@ -127,8 +126,9 @@ module _ {T : Type 0} (does : T → FleetCall → T → Type 0) (o : Origin T) (
             moment = moment;
             cost = cost;
             stands = stands-act does o start (act ∷ acts) (End waiter (end.NoQuota cost)) 0 0
-                (stands-act does o start acts (Refused waiter cost moment) times 0 stands (may_ask false refused, refused_cost cost later is is_cost) asks-calls is refl)
-                (events_of acts, moment, refl) (spends-none does new left) refl same;
+                (stands-act does o start acts (Refused waiter cost moment) times 0 stands (may_ask false refused, refused_cost cost later is is_cost) asks-calls is refl
+                (λ ask. spare))
+                (events_of acts, moment, refl) (spends-none does new left) refl same no_ask;
           }
 
   -- the first poll is free

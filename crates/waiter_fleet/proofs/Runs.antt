@@ -98,7 +98,7 @@ module _ {T : Type 0} (does : T → FleetCall → T → Type 0) (o : Origin T) (
     acts = [];
     between = record {
       stands = record {
-        kept = record { fleet = tt; books = refl; spends = spends-one does o.world world o.fuel fuel (timed (Now start)) clock (omega arith) };
+        kept = record { fleet = tt; books = refl; funded = tt; spends = spends-one does o.world world o.fuel fuel (timed (Now start)) clock (omega arith) };
         logged = refl;
       };
       seated = seated;

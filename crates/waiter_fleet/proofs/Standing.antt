@@ -1,10 +1,11 @@
 -- Stretches of calls put together, and acts that follow one another.
-use Rattle.std.proofs.Common.{◌≡◌, ℕ, ◌+◌, Bool, true, List, [], ◌∷◌, ◌++◌, arith, ap, refl, ◌∙◌}
+use Rattle.std.proofs.Common.{◌≡◌, ◌≢◌, ℕ, ◌+◌, Bool, true, false, List, [], ◌∷◌, ◌++◌, arith, ap, refl, ◌∙◌}
 use Rattle.smithy_types.specs.declared.kinds.ErrorKind.TheVariants.{ServerError}
 use Rattle.smithy_types.proofs.ChainLemmas.{chained_join}
 use Rattle.retry_quota.specs.Book.{Book, cost_of}
 use Rattle.waiter_fleet.specs.declared.event.FleetEvent.{FleetEvent}
-use Rattle.waiter_fleet.specs.Acts.{Act, calls_of, calls_with, events_of, open_sleep}
+use Rattle.std.proofs.lemmas.Bool.{false≢true}
+use Rattle.waiter_fleet.specs.Acts.{Act, calls_of, calls_with, events_of, is_ask, open_sleep}
 use Rattle.smithy_types.specs.Chain.{Chained}
 use Rattle.smithy_types.specs.declared.timers.TimersCall.TheVariants.{Now}
 use Rattle.waiter_fleet.specs.Calls.{FleetCall, asks, timed}
@@ -16,6 +17,10 @@ use Rattle.waiter_fleet.specs.Steps.{Halts, Kept, Origin, Rest, RunsOut, Spends,
 pub asks-append : (xs ys : List FleetCall) → asks (xs ++ ys) ≡ asks xs + asks ys
 asks-append [] ys = omega arith
 asks-append (x ∷ xs) ys = omega (arith, asks-append xs ys)
+
+-- what asks no bucket needs no fuel
+pub no_ask : {left : ℕ} → false ≡ true → left ≢ 0
+no_ask is = absurd (false≢true is)
 
 -- whether there are sleeps never changes
 pub sleeps-chained : {T : Type 0} (does : T → FleetCall → T → Type 0) (sleeps : T → Bool) →
@@ -50,6 +55,7 @@ module _ {T : Type 0} (does : T → FleetCall → T → Type 0) where
     kept-beyond {acts} {some} {own} {book} {mid} {new} {between} {left} kept further = record {
       fleet = kept.fleet;
       books = kept.books;
+      funded = kept.funded;
       spends = spends-append kept.spends further;
     }
 
@@ -60,24 +66,30 @@ module _ {T : Type 0} (does : T → FleetCall → T → Type 0) where
           Follows o.plans o.book start (events_of acts) event →
           Spends does mid between (calls_with event times sleep (open_sleep (waiter_of event) acts)) new left →
           after ≡ book_with (cost_of ServerError o.book) event book →
+          (is_ask event ≡ true → left ≢ 0) →
           let act : Act = record { event = event; times = times; sleep = sleep } in
           Kept does o start (act ∷ acts) (calls_of (act ∷ acts)) after new left
-      kept-act {book} {after} {mid} {new} {between} {left} kept follows further is = record {
-        fleet = (follows, kept.fleet);
-        books = is ∙ ap (book_with (cost_of ServerError o.book) event) kept.books;
-        spends = spends-append kept.spends further;
-      }
+      kept-act {book} {after} {mid} {new} {between} {left} kept follows further is spare =
+          let own = calls_with event times sleep (open_sleep (waiter_of event) acts) in
+          let spends = spends-append kept.spends further in
+          let spent : left + asks (timed (Now start) ∷ (calls_of acts ++ own)) ≡ o.fuel = spends.spent in
+          record {
+            fleet = (follows, kept.fleet);
+            books = is ∙ ap (book_with (cost_of ServerError o.book) event) kept.books;
+            funded = (λ ask. let some = spare ask in omega (arith, spent, some), kept.funded);
+            spends = spends;
+          }
 
       pub stands-act : {before events : List FleetEvent} {book after : Book} {mid new : T} {between left : ℕ} →
           Stands does o start acts before book mid between →
           Follows o.plans o.book start (events_of acts) event →
           Spends does mid between (calls_with event times sleep (open_sleep (waiter_of event) acts)) new left →
           after ≡ book_with (cost_of ServerError o.book) event book →
-          events ≡ before ++ event ∷ [] →
+          events ≡ before ++ event ∷ [] → (is_ask event ≡ true → left ≢ 0) →
           let act : Act = record { event = event; times = times; sleep = sleep } in
           Stands does o start (act ∷ acts) events after new left
-      stands-act {before} {events} {book} {after} {mid} {new} {between} {left} stands follows further is logged = record {
-        kept = kept-act stands.kept follows further is;
+      stands-act {before} {events} {book} {after} {mid} {new} {between} {left} stands follows further is logged spare = record {
+        kept = kept-act stands.kept follows further is spare;
         logged = logged ∙ ap (λ items. items ++ event ∷ []) stands.logged;
       }
 

@@ -1,10 +1,10 @@
 -- The events of a fleet with the calls that made them. The last act stands first.
-use Rattle.std.specs.Prelude.{ℕ, ◌==◌, List, [], ◌∷◌, ◌++◌, Option, None, Some, Ok, if◌then◌else◌}
+use Rattle.std.specs.Prelude.{◌≡◌, ◌<◌, ℕ, ◌==◌, Bool, true, false, List, [], ◌∷◌, ◌++◌, Option, None, Some, Ok, if◌then◌else◌}
 use Rattle.smithy_types.specs.declared.timers.TimersCall.TheVariants.{Now, Start}
 use Rattle.waiter_fleet.specs.declared.event.FleetEvent.{FleetEvent}
 use Rattle.waiter_fleet.specs.declared.event.FleetEvent.TheVariants.{Poll, Sleep, Charged, Refused, End}
 use Rattle.waiter_fleet.specs.Events.{waiter_of}
-use Rattle.waiter_fleet.specs.Calls.{FleetCall, awaited, drew, polled, timed, unanswered}
+use Rattle.waiter_fleet.specs.Calls.{FleetCall, asks, awaited, drew, polled, timed, unanswered}
 
 pub record Act : Type 0 where
   pub event : FleetEvent
@@ -46,3 +46,16 @@ calls_with (End waiter ending) times sleep before = []
 abbrev pub calls_of : List Act → List FleetCall
 calls_of [] = []
 calls_of (act ∷ before) = calls_of before ++ calls_with act.event act.times act.sleep (open_sleep (waiter_of act.event) before)
+
+-- whether the bucket was asked
+abbrev pub is_ask : FleetEvent → Bool
+is_ask (Poll waiter number moment seen state) = false
+is_ask (Sleep waiter nanos elapsed word) = false
+is_ask (Charged waiter moment) = true
+is_ask (Refused waiter cost moment) = true
+is_ask (End waiter ending) = false
+
+-- The bucket was asked while there was fuel left, each time.
+abbrev pub AreFunded : ℕ → List Act → Type 0
+AreFunded fuel [] = Unit {0}
+AreFunded fuel (act ∷ before) = (is_ask act.event ≡ true → asks (calls_of (act ∷ before)) < fuel) × AreFunded fuel before

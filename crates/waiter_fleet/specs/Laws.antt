@@ -1,5 +1,12 @@
 -- What the laws of a fleet speak of. The last event stands first.
-use Rattle.std.specs.Prelude.{◌≡◌, ℕ, ◌+◌, ◌-◌, ◌/◌, ◌⊎◌, Bool, false, List, [], ◌∷◌, ◌++◌}
+use Rattle.std.specs.Prelude.{◌≡◌, ℕ, ◌+◌, ◌-◌, ◌/◌, ◌⊎◌, Bool, false, List, [], ◌∷◌, ◌++◌, Option, Ok}
+use Rattle.smithy_types.specs.declared.acceptor.AcceptorState.{AcceptorState}
+use Rattle.smithy_types.specs.declared.timers.TimersCall.TheVariants.{Now, Ready, Start}
+use Rattle.retry_quota.specs.Book.{Book}
+use Rattle.waiter_fleet.specs.declared.event.Seen.{Seen}
+use Rattle.waiter_fleet.specs.Calls.{FleetCall, drew, polled, timed}
+use Rattle.waiter_fleet.specs.Steps.{Origin}
+use Rattle.waiter_fleet.specs.Waiting.{WaitsAll}
 use Rattle.smithy_types.specs.declared.kinds.ErrorKind.TheVariants.{ServerError}
 use Rattle.waiters.specs.Delay.{second}
 use Rattle.retry_quota.specs.History.{Entry, Acquire, Forget, Granted, Done}
@@ -32,3 +39,20 @@ steps_of cost (End waiter ending ∷ before) = steps_of cost before
 -- one that wasn't made, and hasn't ended then.
 abbrev pub PaysItsPolls : (charges polls : ℕ) → Bool → Type 0
 PaysItsPolls charges polls over = (charges ≡ polls - 1) ⊎ ((charges ≡ polls) × (over ≡ false))
+
+-- What a world answers, and where that leads it, follows from what it was. Want of memory aside.
+pub record IsSteady {T : Type 0} (does : T → FleetCall → T → Type 0) : Type 0 where
+  pub moves : (old first second : T) (call : FleetCall) → does old call first → does old call second → first ≡ second
+  pub tells : (old first second : T) (one other : ℕ) → does old (timed (Now one)) first → does old (timed (Now other)) second → one ≡ other
+  pub draws : (old first second : T) (one other : ℕ) → does old (drew one) first → does old (drew other) second → one ≡ other
+  pub polls : (old first second : T) (waiter : ℕ) (one other : Option (Seen × AcceptorState)) →
+      does old (polled waiter (Ok one)) first → does old (polled waiter (Ok other)) second → one ≡ other
+  pub starts : (old first second : T) (nanos : ℕ) (one other : Option ℕ) →
+      does old (timed (Start nanos (Ok one))) first → does old (timed (Start nanos (Ok other))) second → one ≡ other
+  pub wakes : (old first second : T) (sleep : ℕ) (one other : Bool) →
+      does old (timed (Ready sleep one)) first → does old (timed (Ready sleep other)) second → one ≡ other
+
+-- two runs of a fleet over such a world, begun in one way, come to the same events and the same bucket
+abbrev pub RunsAreDetermined : {T : Type 0} → (T → FleetCall → T → Type 0) → (T → ℕ) → Type 0
+RunsAreDetermined {T} does count = IsSteady does → (o : Origin T) (events others : List FleetEvent) (book other : Book) (world last : T) →
+    WaitsAll does count o events book world → WaitsAll does count o others other last → (events ≡ others) × (book ≡ other)

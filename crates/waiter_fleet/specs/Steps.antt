@@ -8,7 +8,7 @@ use Rattle.retry_quota.specs.Book.{Book, cost_of}
 use Rattle.retry_quota.specs.History.{Acquire, Forget, after}
 use Rattle.waiter_fleet.specs.declared.event.FleetEvent.{FleetEvent}
 use Rattle.waiter_fleet.specs.declared.plan.Plan.{Plan}
-use Rattle.waiter_fleet.specs.Acts.{Act, calls_of, events_of, open_sleep}
+use Rattle.waiter_fleet.specs.Acts.{Act, AreFunded, calls_of, events_of, open_sleep}
 use Rattle.waiter_fleet.specs.Calls.{Answer, FleetCall, asks, awaited, polled, timed, unanswered, unready}
 use Rattle.waiter_fleet.specs.Events.{book_after, charges, ended, in_order, last_moment, last_sleep, polls, zero_used}
 use Rattle.waiter_fleet.specs.Fleet.{IsFleet, IsTurnOf, is_settled}
@@ -48,6 +48,7 @@ module _ {T : Type 0} (does : T → FleetCall → T → Type 0) where
     pub record Kept (acts : List Act) (calls : List FleetCall) (book : Book) (world : T) (fuel : ℕ) : Type 0 where
       pub fleet : IsFleet o.plans o.book start (events_of acts)
       pub books : book ≡ book_after o.book (events_of acts)
+      pub funded : AreFunded o.fuel acts
       pub spends : Spends o.world o.fuel (timed (Now start) ∷ calls) world fuel
 
     -- the fleet stands behind these acts, and these are its events in their order
@@ -68,11 +69,13 @@ module _ {T : Type 0} (does : T → FleetCall → T → Type 0) where
       -- its poll had no answer
       unpolled : (waiter times : ℕ) → IsTurnOf (length o.plans) start (events_of acts) waiter →
           charges waiter (events_of acts) ≡ polls waiter (events_of acts) → Rest acts (unanswered waiter times)
-      -- its sleep wasn't over,
+      -- its sleep wasn't over, so its next poll wasn't paid for,
       asleep : (waiter sleep times : ℕ) → IsTurnOf (length o.plans) start (events_of acts) waiter →
+          charges waiter (events_of acts) + 1 ≡ polls waiter (events_of acts) →
           open_sleep waiter acts ≡ Some sleep → Rest acts (unready sleep times)
       -- or was, with the last unit
       awoken : (waiter times : ℕ) → IsTurnOf (length o.plans) start (events_of acts) waiter →
+          charges waiter (events_of acts) + 1 ≡ polls waiter (events_of acts) →
           Rest acts (awaited (open_sleep waiter acts) times)
 
     -- the fuel is spent behind these acts

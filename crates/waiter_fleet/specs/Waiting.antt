@@ -4,7 +4,7 @@ use Rattle.smithy_types.specs.Chain.{Chained}
 use Rattle.smithy_types.specs.declared.timers.TimersCall.TheVariants.{Now}
 use Rattle.retry_quota.specs.Book.{Book}
 use Rattle.waiter_fleet.specs.declared.event.FleetEvent.{FleetEvent}
-use Rattle.waiter_fleet.specs.Acts.{Act, calls_of, events_of}
+use Rattle.waiter_fleet.specs.Acts.{Act, AreFunded, calls_of, events_of}
 use Rattle.waiter_fleet.specs.Notes.{Keeps, KeepsAnswers}
 use Rattle.waiter_fleet.specs.Calls.{FleetAnswer, FleetCall, asks, timed, waits}
 use Rattle.waiter_fleet.specs.Events.{book_after, ended, in_order}
@@ -36,6 +36,8 @@ pub record WaitsAll {T : Type 0} (does : T → FleetCall → T → Type 0) (coun
   -- The fuel bounds the polls that were answered or pending and the sleeps that were asked, and is
   -- spent where a waiter hasn't ended.
   pub within : asks (calls_of acts ++ rest) ≤ o.fuel
+  -- Once it is spent, the bucket isn't asked.
+  pub funded : AreFunded o.fuel acts
   pub all_spent : (waiter : ℕ) → waiter < length o.plans → ended waiter (events_of acts) ≡ false → asks (calls_of acts ++ rest) ≡ o.fuel
   -- The world counted the polls that had no answer and the sleeps that weren't over.
   pub counted : count world ≡ count o.world + waits (calls_of acts ++ rest)

@@ -16,13 +16,15 @@ ghost use Rattle.smithy_types.specs.declared.acceptor.AcceptorState.{AcceptorSta
 ghost use Rattle.smithy_types.specs.declared.payload.Payload.{Payload};
 ghost use Rattle.waiter_fleet.specs.Events.{book_after, charges, ended, polls};
 ghost use Rattle.waiter_fleet.specs.Fleet.{IsFleet};
-ghost use Rattle.waiter_fleet.specs.Laws.{PaysItsPolls, charged_in_all, steps_of};
+ghost use Rattle.waiter_fleet.specs.Laws.{PaysItsPolls, RunsAreDetermined, charged_in_all};
+ghost use Rattle.waiter_fleet.specs.Laws.{steps_of};
 ghost use Rattle.waiter_fleet.specs.Seats.{plan_of};
 ghost use Rattle.waiter_fleet.specs.Walks.{Accepted, IsLast, Names, last_events, own_events};
 ghost use Rattle.waiter_fleet.specs.Walks.{result_of, spelled, turns_of, walk_of};
 
 use crate::event::FleetEvent;
 use crate::plan::Plan;
+use crate::world::FleetWorld;
 use smithy_types::{AcceptorState, ErrorKind, Payload};
 use waiters::Backoff;
 
@@ -118,4 +120,10 @@ where
           state = state;
           moment = moment;
         }) last }
+{}
+
+/// Over a world whose answers follow from what it was, a fleet's run is determined: two that begin
+/// alike have the same events, and leave the same bucket.
+pub fn runs_are_determined<W: FleetWorld>()
+    ensures { RunsAreDetermined W.does W.waits }
 {}

@@ -1,3 +1,4 @@
+pub mod Determined
 pub mod Lines
 pub mod Plans
 pub mod Saying

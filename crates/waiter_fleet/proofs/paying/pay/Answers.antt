@@ -37,6 +37,7 @@ returns-in_err-add-clause-events g c o start acts stands asks =
     refused_exit c.from_residual.result _ _ p.0 p.1
     (halts-charged g.W.FleetWorld.does o start acts c.args.waiter c.args.sleep woke.calls.0 stands asks c.now-moment.result woke.calls.1
     (g.met.W.FleetWorld.made _ (timed (Now c.now-moment.result)) _ refl (g.met.W.WaiterTimers.timers_make _ _ _ c.now-moment.ensures.related))
+    c.if-log-eq0.false
     _ charged.granted charged.book)
 
 pub returns-in_err-add-clause-sleeps : goal.returns-in_err-add-clause-sleeps
@@ -52,6 +53,7 @@ returns-then-charge-clause-events g c o start acts stands asks =
     rw c.add.ensures.same_fuel
     (pays-charged g.W.FleetWorld.does o start acts c.args.waiter c.args.sleep woke.calls.0 stands asks c.now-moment.result woke.calls.1
     (g.met.W.FleetWorld.made _ (timed (Now c.now-moment.result)) _ refl (g.met.W.WaiterTimers.timers_make _ _ _ c.now-moment.ensures.related))
+    c.if-log-eq0.false
     _ _ charged.granted charged.book c.in_ok-add.ensures.added)
 
 pub returns-then-charge-clause-sleeps : goal.returns-then-charge-clause-sleeps
@@ -68,6 +70,7 @@ returns-in_err-refuse-clause-events g c o start acts stands asks =
     refused_exit c.from_residual-in_err-refuse.result _ _ p.0 p.1
     (halts-refused g.W.FleetWorld.does o start acts c.args.waiter c.args.sleep woke.calls.0 stands asks c.now-moment.result woke.calls.1
     (g.met.W.FleetWorld.made _ (timed (Now c.now-moment.result)) _ refl (g.met.W.WaiterTimers.timers_make _ _ _ c.now-moment.ensures.related))
+    c.if-log-eq0.false
     c.cost-cost.result _ refused.granted refused.book c.cost-cost.ensures)
 
 pub returns-in_err-refuse-clause-sleeps : goal.returns-in_err-refuse-clause-sleeps
@@ -83,6 +86,7 @@ returns-clause-events g c o start acts stands asks =
     rw c.refuse.ensures.same_fuel
     (pays-refused g.W.FleetWorld.does o start acts c.args.waiter c.args.sleep woke.calls.0 stands asks c.now-moment.result woke.calls.1
     (g.met.W.FleetWorld.made _ (timed (Now c.now-moment.result)) _ refl (g.met.W.WaiterTimers.timers_make _ _ _ c.now-moment.ensures.related))
+    c.if-log-eq0.false
     c.cost-cost.result _ _ refused.granted refused.book c.cost-cost.ensures c.in_ok-refuse.ensures.added)
 
 pub returns-clause-sleeps : goal.returns-clause-sleeps
