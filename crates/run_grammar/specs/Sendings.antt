@@ -1,4 +1,4 @@
--- What is sent was made: a transmission is handed a request.
+-- A transmission is handed a request.
 use Rattle.std.specs.Prelude.{Some, List, ◌∷◌, ◌++◌, [], ◌≡◌}
 use Rattle.smithy_types.specs.declared.http.HttpRequest.{HttpRequest}
 use Rattle.smithy_types.specs.declared.kinds.StopPoint.{StopPoint}

@@ -115,8 +115,7 @@ pub fn a_hook_leaves_what_its_chain_shows()
     ensures { HookRow }
 {}
 
-/// In a list that begins a run each Transmit is handed a request: nothing is sent that no
-/// serializer made.
+/// In a list that begins a run each Transmit is handed a request.
 pub fn transmits_have_requests()
     ensures { TransmitsHaveRequests }
 {}
