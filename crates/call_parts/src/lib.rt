@@ -24,6 +24,3 @@ pub use reading::{Reading, Stop};
 pub use sleeping::Sleeps;
 pub use upload::Upload;
 pub use whole_body::WholeBody;
-
-#[cfg(test)]
-mod tests;

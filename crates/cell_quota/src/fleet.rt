@@ -17,20 +17,20 @@ use std::thread::{Threads, join};
 /// What one caller does with its pass on a shared bucket, in a thread of its own.
 pub trait Caller: Drop + Send {
     ghost use Rattle.retry_quota.specs.History.{Entry};
-    ghost use Rattle.cell_quota.specs.Known.{IsOf};
+    ghost use Rattle.cell_quota.specs.Known.{IsOf, Place};
     ghost use Rattle.cell_quota.specs.Callers.{IsUnused, HasMade};
 
     /// The steps that a caller has made, with their replies.
     ghost made: { Self → List Entry };
 
-    /// How a caller may end, by what it was.
-    ghost ends: { Self → Self → Type 0 };
+    /// How a caller may end at a bucket, by what it was.
+    ghost ends: { Place → Self → Self → Type 0 };
 
     /// Runs the caller to its end, with a pass of one part that has made no step.
     fn run<R: Wait>(self, rt: &R, bucket: &CellBucket, pass: Pass) -> (Self, Pass)
         requires own { IsOf bucket.now pass }
         requires unused { IsUnused pass.view }
-        ensures ends { ends self result.0 }
+        ensures ends { ends bucket.now self result.0 }
         ensures own { IsOf bucket.now result.1 }
         ensures made { HasMade (made result.0) result.1.view };
 }
@@ -45,7 +45,7 @@ fn gather<C: Caller, R: Threads + Wait + Sync>(
     requires own { IsOf bucket.now pass }
     requires parts { pass.view.parts ≡ vec_len callers }
     requires unused { pass.view.places ≡ [] }
-    ensures ends { Each C.ends callers.items result.0.items }
+    ensures ends { Each (C.ends bucket.now) callers.items result.0.items }
     ensures room { vec_capacity result.0 ≡ vec_capacity callers }
     ensures own { IsOf bucket.now result.1 }
     ensures met { Met (map C.made result.0.items) pass.view result.1.view }
@@ -63,7 +63,7 @@ fn gather<C: Caller, R: Threads + Wait + Sync>(
         rt,
         move || -> (C, Pass)
             requires { IsOf bucket.now other × IsUnused other.view }
-            ensures { C.ends last result.0
+            ensures { C.ends bucket.entry.now last result.0
                 × IsOf bucket.entry.now result.1
                 × HasMade (C.made result.0) result.1.view }
         { last.run(rt, bucket, other) },
@@ -72,7 +72,7 @@ fn gather<C: Caller, R: Threads + Wait + Sync>(
                 × IsOf bucket.now pass
                 × (pass.view.parts ≡ vec_len callers)
                 × (pass.view.places ≡ []) }
-            ensures { Each C.ends callers.items result.0.items
+            ensures { Each (C.ends bucket.entry.now) callers.items result.0.items
                 × (vec_capacity result.0 ≡ vec_capacity callers)
                 × IsOf bucket.entry.now result.1
                 × Met (map C.made result.0.items) pass.view result.1.view }
@@ -96,7 +96,7 @@ pub fn run_callers<C: Caller, R: Threads + Wait + Sync>(
     requires own { IsOf bucket.now pass }
     requires new { pass.view ≡ opened bucket.now.opening }
     requires callers { bucket.now.opening.callers ≡ vec_len callers }
-    ensures ends { Each C.ends callers.items result.0.items }
+    ensures ends { Each (C.ends bucket.now) callers.items result.0.items }
     ensures history { (log : List Entry)
         × AreTheirs bucket.now.opening (map C.made result.0.items) log
         × (result.1 ≡ sums_of (end_of bucket.now.opening.book log))

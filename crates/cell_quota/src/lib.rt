@@ -13,6 +13,3 @@ mod steps;
 pub use cell_bucket::{CellBucket, Pass};
 pub use cell_quota::{At, CellQuota};
 pub use fleet::{Caller, run_callers};
-
-#[cfg(test)]
-mod tests;

@@ -29,7 +29,7 @@ impl Caller for Payer {
 
     ghost made = { λ p. option_map_or (λ end. own end.value.view) p.end [] };
 
-    ghost ends = { λ p q. q.rounds ≡ p.rounds };
+    ghost ends = { λ _ p q. q.rounds ≡ p.rounds };
 
     fn run<R: Wait>(self, rt: &R, bucket: &CellBucket, pass: Pass) -> (Payer, Pass) {
         let pass = pay_by_pass::<Brand, R>(rt, bucket, pass, self.rounds);

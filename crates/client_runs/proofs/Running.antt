@@ -19,11 +19,11 @@ asked r = r.invocation
 
 -- ---- lists of invocations that were made
 
-map_more : (rs : List Ran) (r : Ran) → map asked (rs ++ r ∷ []) ≡ map asked rs ++ asked r ∷ []
+pub map_more : (rs : List Ran) (r : Ran) → map asked (rs ++ r ∷ []) ≡ map asked rs ++ asked r ∷ []
 map_more [] r = refl
 map_more (x ∷ rs) r = ap (λ l. asked x ∷ l) (map_more rs r)
 
-text_nil : (n : ℕ) → invocations_text n [] ≡ []
+pub text_nil : (n : ℕ) → invocations_text n [] ≡ []
 unfolding invocations_text
 text_nil n = refl
 
@@ -31,7 +31,7 @@ text_cons : (n : ℕ) (r : Ran) (rs : List Ran) → invocations_text n (r ∷ rs
 unfolding invocations_text
 text_cons n r rs = refl
 
-text_more : (n m : ℕ) (rs : List Ran) (r : Ran) → m ≡ n + length rs → invocations_text n (rs ++ r ∷ []) ≡ invocations_text n rs ++ invocation_text m r.invocation.client r.log r.ending
+pub text_more : (n m : ℕ) (rs : List Ran) (r : Ran) → m ≡ n + length rs → invocations_text n (rs ++ r ∷ []) ≡ invocations_text n rs ++ invocation_text m r.invocation.client r.log r.ending
 text_more n m [] r h = text_cons n r [] ∙ ap (λ l. invocation_text n r.invocation.client r.log r.ending ++ l) (text_nil (n + 1)) ∙ append-nil (invocation_text n r.invocation.client r.log r.ending)
     ∙ ap (λ k. invocation_text k r.invocation.client r.log r.ending) (sym (h ∙ omega arith)) ∙ ap (λ l. l ++ invocation_text m r.invocation.client r.log r.ending) (sym (text_nil n))
 text_more n m (x ∷ rs) r h = text_cons n x (rs ++ r ∷ [])
@@ -43,7 +43,7 @@ last_more : (o : PrintStatus) (rs : List Ran) (r : Ran) → last_outcome o (rs +
 last_more o [] r = refl
 last_more o (x ∷ rs) r = last_more (came_to x.ending) rs r
 
-length_more : (rs : List Ran) (r : Ran) → length (rs ++ r ∷ []) ≡ length rs + 1
+pub length_more : (rs : List Ran) (r : Ran) → length (rs ++ r ∷ []) ≡ length rs + 1
 length_more [] r = omega arith
 length_more (x ∷ rs) r = ap suc (length_more rs r) ∙ omega arith
 

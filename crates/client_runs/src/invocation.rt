@@ -57,8 +57,8 @@ pub fn invoke<C: ClassifyRetry, I: TakeOffer>(
     Ok((log, ending))
 }
 
-// What a run of the service's operation is begun with.
-fn head_of(input: Payload, fuel: u64, stop: StopPoint) -> RunHead
+/// What a run of the service's operation is begun with.
+pub fn head_of(input: Payload, fuel: u64, stop: StopPoint) -> RunHead
     ensures { result ≡ head_of input fuel stop }
 {
     RunHead {

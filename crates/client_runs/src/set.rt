@@ -147,9 +147,9 @@ impl<C: ClassifyRetry, I: TakeOffer> ClientSet<C, I> {
     }
 }
 
-// The number of the next invocation. There is none behind the last of a u64, for which no memory
-// could hold invocations.
-fn next(number: u64) -> Result<u64, OutOfMemory>
+/// The number of the next invocation. There is none behind the last of a u64, for which no memory
+/// could hold invocations.
+pub fn next(number: u64) -> Result<u64, OutOfMemory>
     ensures { IfOk result (λ n. n ≡ number + 1) }
 {
     match number.checked_add(1) {

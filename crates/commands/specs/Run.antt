@@ -1,6 +1,6 @@
 -- What the program does for each command.
 use Rattle.std.specs.Prelude.{ℕ, ◌≡◌, ◌≤◌, List, Option, Some, None}
-use Rattle.shell.specs.Fixed.{tells_text, tells_unbuilt}
+use Rattle.shell.specs.Fixed.{tells_text}
 use Rattle.shell.specs.Said.{Said}
 use Rattle.shell.specs.Shell.{Gives, Served}
 use Rattle.shell.specs.Sink.{SinkView}
@@ -12,6 +12,7 @@ use Rattle.shell.specs.declared.status.ShellStatus.TheVariants as shells
 use Rattle.shell.specs.declared.status.Status.{Status}
 use Rattle.wait_command.specs.Wait.{wait_says}
 use Rattle.client_command.specs.Client.{client_says, make_says}
+use Rattle.fleet_command.specs.Fleet.{fleet_says}
 use Rattle.waiters_command.specs.Waiters.{waiters_says}
 use Rattle.commands.specs.Check.{check_says}
 use Rattle.commands.specs.Replay.{replay_says}
@@ -36,7 +37,7 @@ Does reads sees (Some commands.Replay) ended before after old new = Serves reads
 Does reads sees (Some commands.Client) ended before after old new = Serves reads sees client_says ended before after old new
 Does reads sees (Some commands.Wait) ended before after old new = Serves reads sees wait_says ended before after old new
 Does reads sees (Some commands.Waiters) ended before after old new = Serves reads sees waiters_says ended before after old new
-Does reads sees (Some commands.Fleet) ended before after old new = Shows sees tells_unbuilt ended before after old new
+Does reads sees (Some commands.Fleet) ended before after old new = Serves reads sees fleet_says ended before after old new
 Does reads sees (Some commands.Check) ended before after old new = Serves reads sees check_says ended before after old new
 Does reads sees (Some (commands.Make count seed)) ended before after old new = Shows sees (make_says count seed) ended before after old new
 

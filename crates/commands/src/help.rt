@@ -10,7 +10,7 @@ A command reads its script from standard input and prints to standard output.
   client        runs clients against a scripted outside
   wait          runs a waiter over a script
   waiters       runs many waiters over a script, whose polls one bucket pays for
-  fleet         runs clients in threads over one bucket (not built yet)
+  fleet         runs clients in threads over one bucket
   check         tells whether its input is the print of a run
   make N SEED   makes a script of N invocations and runs it; reads nothing
   --help        prints this text; reads nothing
@@ -25,7 +25,6 @@ Exit statuses:
   4   the output could not be written
   5   there was no memory
   6   the input, or a number in it, passes its limit
-  7   the command is not built yet
   10  the last answer is an error of the operation
   11  the fuel was used up
   12  the last answer is a payload of another kind

@@ -2,7 +2,6 @@
 #![tactic(auto)]
 
 pub mod check;
-pub mod gate;
 pub mod help;
 pub mod laws;
 pub mod program;
@@ -10,4 +9,4 @@ pub mod replay;
 pub mod run;
 pub mod words;
 
-pub use gate::{Gate, OpenGate};
+pub use fleet_command::{Gate, OpenGate};

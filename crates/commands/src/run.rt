@@ -4,16 +4,17 @@ ghost use Rattle.commands.specs.Run.{Did, Ran};
 ghost use Rattle.commands.specs.Words.{command_of};
 
 use crate::check::Check;
-use crate::gate::{Gate, OpenGate};
 use crate::help::{HELP, VERSION};
 use crate::replay::Replay;
 use crate::words::{Command, command_in};
 use client_command::{ClientCommand, MakeCommand};
-use shell::fixed::{Fixed, Unbuilt};
-use shell::serve::{serve, show};
+use fleet_command::{Gate, OpenGate, answer_fleet};
+use shell::fixed::Fixed;
+use shell::serve::{give, serve, show};
 use shell::sink::Sink;
 use shell::source::Source;
 use shell::status::{Ended, ShellStatus, Status};
+use shell::streams::read_all;
 use smithy_types::Text;
 use std::alloc::Global;
 use std::sync::Wait;
@@ -35,22 +36,38 @@ pub fn run<R: Threads + Wait + Sync, S: Source, K: Sink>(
     run_gated(rt, alloc, words, source, sink, &OpenGate)
 }
 
-/// The same, with a gate before each call of a caller of `fleet`. No command starts a thread yet:
-/// `fleet` isn't built, and every other command is handed to `run_alone`.
+/// The same, with a gate before each call of a caller of `fleet`. Every other command is handed to
+/// `run_alone`.
 pub fn run_gated<R: Threads + Wait + Sync, S: Source, K: Sink, G: Gate + Sync>(
-    _rt: &R,
+    rt: &R,
     alloc: Global,
     words: &[Text],
     source: &mut S,
     sink: &mut K,
-    _gate: &G,
+    gate: &G,
 ) -> Status
     ensures { Ran S.view K.view (command_of words.now) result source.old source.new sink.old
         sink.new }
 {
     match command_in(words) {
-        Some(Command::Fleet) => show(alloc, &Unbuilt, sink).status(),
+        Some(Command::Fleet) => serve_fleet(rt, alloc, source, sink, gate).status(),
         _ => run_alone(alloc, words, source, sink),
+    }
+}
+
+// Serves the command that starts threads.
+fn serve_fleet<R: Threads + Wait + Sync, S: Source, K: Sink, G: Gate + Sync>(
+    rt: &R,
+    alloc: Global,
+    source: &mut S,
+    sink: &mut K,
+    gate: &G,
+) -> Ended
+    ensures { Did S.view K.view (Some Command.Fleet) result source.old source.new sink.old sink.new }
+{
+    match read_all(alloc, source) {
+        Ok(bytes) => give(answer_fleet(rt, alloc, bytes.as_slice(), gate), sink),
+        Err(status) => Ended::Shell(status),
     }
 }
 

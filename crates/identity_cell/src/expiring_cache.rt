@@ -157,6 +157,3 @@ impl<T: Clone + Drop, E: Drop> ExpiringCache<T, E> {
         }
     }
 }
-
-#[cfg(test)]
-mod tests;

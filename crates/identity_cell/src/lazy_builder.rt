@@ -195,6 +195,3 @@ impl Default for LazyCacheBuilder {
         LazyCacheBuilder::new()
     }
 }
-
-#[cfg(test)]
-mod tests;

@@ -303,6 +303,3 @@ impl LazyCache {
         }
     }
 }
-
-#[cfg(test)]
-mod tests;

@@ -71,6 +71,3 @@ fn backoffs(first: u64, most: u64, retries: u32) -> u128
     }
     total + u128::from(retries - doubling) * backoff
 }
-
-#[cfg(test)]
-mod tests;

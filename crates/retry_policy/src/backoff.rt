@@ -149,6 +149,3 @@ fn asked_or_own(longest: u64, asked: Option<u64>, own: u64) -> u64
         None => own,
     }
 }
-
-#[cfg(test)]
-mod tests;

@@ -167,6 +167,3 @@ pub(crate) fn retry_for(kind: Option<ErrorKind>) -> RetryAction
         None => RetryAction::NoActionIndicated,
     }
 }
-
-#[cfg(test)]
-mod tests;

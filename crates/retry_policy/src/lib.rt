@@ -25,6 +25,3 @@ pub use standard::StandardRetryStrategy;
 pub use status::HttpStatusCodeClassifier;
 pub use token_bucket_provider::TokenBucketProvider;
 pub use transient::TransientErrorClassifier;
-
-#[cfg(test)]
-mod tests;

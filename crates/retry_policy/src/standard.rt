@@ -395,6 +395,3 @@ fn ask_limiter<Q: Quota>(
         Err(delay) => Some(delay),
     }
 }
-
-#[cfg(test)]
-mod tests;

@@ -123,6 +123,3 @@ impl<K: Eq + Hash, V> Default for PartitionTable<K, V> {
         PartitionTable::new()
     }
 }
-
-#[cfg(test)]
-mod tests;

@@ -358,6 +358,3 @@ impl<L: Limiter> Quota for Registry<L> {
 
     ghost told = { told_books };
 }
-
-#[cfg(test)]
-mod tests;

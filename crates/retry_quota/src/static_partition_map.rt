@@ -71,6 +71,3 @@ impl<K: Eq + Hash, V> Default for StaticPartitionMap<K, V> {
         StaticPartitionMap::new()
     }
 }
-
-#[cfg(test)]
-mod tests;

@@ -368,6 +368,3 @@ impl Default for TokenBucket {
         TokenBucket::plain(DEFAULT_CAPACITY)
     }
 }
-
-#[cfg(test)]
-mod tests;

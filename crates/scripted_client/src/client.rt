@@ -94,9 +94,9 @@ pub fn build_client(
     })
 }
 
-// The builder of a client of this partition, and the client's identities.
+/// The builder of a client of this partition, and the client's identities.
 #[tactic(auto, unfolding(crate::specs::Clients::builder_of))]
-fn prepare(
+pub fn prepare(
     alloc: Global,
     object: ClientObject,
     partition: Option<RetryPartition>,
@@ -170,8 +170,8 @@ fn plugged(
     Ok(builder_with(names, rules, classifiers, auth, plugins))
 }
 
-// The operation of a client, over payloads.
-fn operation_of(target: &ClientTarget) -> Result<PayloadOperation, OutOfMemory>
+/// The operation of a client, over payloads.
+pub fn operation_of(target: &ClientTarget) -> Result<PayloadOperation, OutOfMemory>
     ensures { IfOk result (λ operation. IsOperationOf target.now operation) }
 {
     let service = target.service.clone()?;

@@ -31,16 +31,6 @@ fn words_that_are_no_command_are_refused(rt: HostRuntime) -> Result<(), Fail> {
 }
 
 #[test]
-fn commands_that_are_not_built_say_so(rt: HostRuntime) -> Result<(), Fail> {
-    let words = words_of(rt.alloc(), "fleet")?;
-    let mut source = SureSource::new(Vec::new(rt.alloc()));
-    let mut sink = SureSink::new(rt.alloc());
-    let status = run(&rt, rt.alloc(), words.as_slice(), &mut source, &mut sink);
-    assert_eq!(rt; status, Status::NotBuilt);
-    Ok(())
-}
-
-#[test]
 fn at_most_a_thousand_invocations_are_made(rt: HostRuntime) -> Result<(), Fail> {
     let rows: [(&str, Status, &str); 3] = [
         (

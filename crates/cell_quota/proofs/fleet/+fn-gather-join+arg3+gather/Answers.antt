@@ -27,7 +27,7 @@ push_reserved-requires-2 g t c =
     let rest = c.pop.new.self in
     let done = c.join-last.result.1.0 in
     let ends = c.join-last.ensures.second in
-    let same = each_length g.C.Caller.ends rest.items done.items ends.0 in
+    let same = each_length (g.C.Caller.ends c.args.bucket.now) rest.items done.items ends.0 in
     let room = ends.1 in
     let pop = c.in-Some.ensures.len in
     let kept = c.in-Some.ensures.capacity in
@@ -38,7 +38,7 @@ push_reserved-requires-2 g t c =
 
 pub returns-clause-ends : goal.returns-clause-ends
 returns-clause-ends g t c =
-    let ends = g.C.Caller.ends in
+    let ends = g.C.Caller.ends c.args.bucket.now in
     let rest = c.pop.new.self in
     let last = c.in-Some.last in
     let done = c.join-last.result.1.0 in

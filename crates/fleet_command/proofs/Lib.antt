@@ -1,0 +1,8 @@
+pub mod Saying
+pub mod Running
+pub mod Printing
+pub mod Playing
+pub mod Crosses
+pub mod Closing
+pub mod Stepping
+pub mod Deciding

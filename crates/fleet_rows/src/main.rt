@@ -1,0 +1,59 @@
+//! Prints how fleets end and what their callers decide: rows whose prints are the same however
+//! threads take turns, scripts that are refused, and a call that is held at the gate.
+#![tactic(auto)]
+
+mod gate;
+mod rows;
+mod running;
+mod spelling;
+
+use anyhow::Result;
+use commands::OpenGate;
+use gate::HoldingGate;
+use rows::{ROWS, Row};
+use running::{fleet, print_told};
+use spelling::{TWO_CALLERS, changed, spelled, with_runs};
+use std::sync::Wait;
+use std::thread::Threads;
+
+fn main(rt: HostRuntime) -> Result<()> {
+    for row in ROWS {
+        print_row(rt, &rt, row)?;
+    }
+    for count in [5000, 5001] {
+        print_many(rt, &rt, count)?;
+    }
+    print_held(rt, &rt)
+}
+
+// Prints the row's status, and what is told of its callers.
+fn print_row<R: Threads + Wait + Sync>(rt: HostRuntime, threads: &R, row: &Row) -> Result<()> {
+    let text = changed(rt.alloc(), spelled(rt.alloc(), row.callers)?, row.changes)?;
+    let (status, sink) = fleet(threads, rt.alloc(), text, &OpenGate)?;
+    println!(rt; "{}: status {}", row.name, status.number())?;
+    print_told(rt, sink.bytes.as_slice())
+}
+
+// Prints the status of two callers of which one has so many invocations, and the other 5000.
+fn print_many<R: Threads + Wait + Sync>(rt: HostRuntime, threads: &R, count: usize) -> Result<()> {
+    let text = with_runs(rt.alloc(), count)?;
+    let (status, _) = fleet(threads, rt.alloc(), text, &OpenGate)?;
+    println!(rt;
+        "{count} invocations beside 5000: status {}",
+        status.number()
+    )?;
+    Ok(())
+}
+
+// Prints whether the held call went on by itself.
+fn print_held<R: Threads + Wait + Sync>(rt: HostRuntime, threads: &R) -> Result<()> {
+    let gate = HoldingGate::new();
+    let text = spelled(rt.alloc(), TWO_CALLERS)?;
+    let (status, sink) = fleet(threads, rt.alloc(), text, &gate)?;
+    println!(rt;
+        "a call that waits for another caller: status {}",
+        status.number()
+    )?;
+    println!(rt; "given up: {}", gate.was_given_up())?;
+    print_told(rt, sink.bytes.as_slice())
+}

@@ -1,0 +1,4 @@
+pub mod Callers
+pub mod Script
+pub mod Limits
+pub mod Placed

@@ -1,0 +1,28 @@
+//! Prints what the parts of a client answer, kind by kind, and what their outside is asked for it:
+//! sleeps, the request's body, the call at the connector and the response's body, and then what
+//! stands between an input and a signed request, and between a response and an outcome.
+#![tactic(auto)]
+
+mod call_lines;
+mod calls;
+mod chooser;
+mod choosing;
+mod client;
+mod guarded;
+mod messages;
+mod noted;
+mod said;
+mod scripts;
+mod service;
+mod sleeping;
+mod standing;
+
+use anyhow::Result;
+
+fn main(rt: HostRuntime) -> Result<()> {
+    call_lines::print(&rt, "sleeps", sleeping::ROWS)?;
+    call_lines::print(&rt, "calls", calls::ROWS)?;
+    call_lines::print(&rt, "guards", guarded::ROWS)?;
+    chooser::print(&rt, choosing::ROWS)?;
+    messages::print(&rt)
+}

@@ -1,0 +1,65 @@
+//! A registry's limiters by their numbers, through the trait of quotas.
+ghost use Rattle.std.specs.Prelude.{Ok};
+
+use anyhow::Result as Told;
+use retry_quota::{Limiter, Quota, Registry, RequestReason};
+use smithy_types::OutOfMemory;
+use std::alloc::Global;
+
+/// A limiter that refuses nothing.
+#[derive(Debug, Drop)]
+pub struct FreeLimiter;
+
+impl Limiter for FreeLimiter {
+    ghost at = { λ _. record {} };
+
+    ghost zero = { record {} };
+
+    ghost after_acquire = { λ limiter _ _. limiter };
+
+    ghost reply_to = { λ _ _ _. Ok tt };
+
+    ghost after_update = { λ limiter _ _. limiter };
+
+    fn at(_now: u64) -> FreeLimiter {
+        FreeLimiter
+    }
+
+    fn zero() -> FreeLimiter {
+        FreeLimiter
+    }
+
+    fn acquire(&mut self, _now: u64, _reason: RequestReason) -> Result<(), u64> {
+        Ok(())
+    }
+
+    fn update(&mut self, _now: u64, _throttled: bool) {}
+}
+
+fn one_limiter(alloc: Global) -> Result<Registry<FreeLimiter>, OutOfMemory> {
+    let mut registry = Registry::new(alloc)?;
+    let _ = registry.add_limiter(alloc, FreeLimiter::zero())?;
+    Ok(registry)
+}
+
+fn throttle<Q: Quota>(quota: &mut Q, limiter: u32) {
+    quota.limiter_update(limiter, 5, true);
+}
+
+fn ask<Q: Quota>(quota: &mut Q, limiter: u32) -> Result<(), u64> {
+    quota.limiter_acquire(limiter, 6, RequestReason::Retry)
+}
+
+/// Prints what a limiter and one that isn't there answer.
+pub fn print(rt: &HostRuntime) -> Told<()> {
+    println!(rt; "a free limiter and one that isn't there refuse nothing")?;
+    print_asked(rt, &mut one_limiter(rt.alloc())?)
+}
+
+fn print_asked<Q: Quota>(rt: &HostRuntime, quota: &mut Q) -> Told<()> {
+    for limiter in 0..2 {
+        throttle(quota, limiter);
+        println!(rt; "  limiter {limiter}: {:?}", ask(quota, limiter))?;
+    }
+    Ok(())
+}
