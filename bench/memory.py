@@ -16,7 +16,7 @@ NO_MEMORY = 5
 EXAMPLES = [
     (["replay"], "examples/teapot.json"),
     (["check"], "examples/teapot.txt"),
-    (["client"], "examples/client/rows/a_retry_after_503.json"),
+    (["client"], "examples/client/a_retry_after_503.json"),
     (["fleet"], "examples/fleet/a_retry_each.json"),
     (["wait"], "examples/wait/fifth_poll.json"),
     (["waiters"], "examples/waiters/both.json"),

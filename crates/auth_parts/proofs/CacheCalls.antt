@@ -1,5 +1,6 @@
 -- The calls of a load's sleep, as calls of the outside.
-use Rattle.std.proofs.Common.{ℕ, Bool, true, ◌++◌, Option, Some, None}
+use Rattle.std.specs.Prelude.{is_some}
+use Rattle.std.proofs.Common.{ℕ, Bool, true, ◌≡◌, refl, ◌++◌, Option, Some, None}
 use Rattle.identity_cell.specs.LoadSleep.{AsksSleep, GivesUp, Waits}
 use Rattle.outside.specs.Calls.{OutsideCall, OfTimers}
 use Rattle.smithy_types.specs.Chain.{Chained}
@@ -20,3 +21,8 @@ module _ {X : Type 0} (relates : X → TimersCall → X → Type 0) (makes : X �
   pub waits_over : (sleep : Option ℕ) (old new : X) → Waits relates sleep true old new → Chained makes old (asking_sleep sleep true ++ giving_up sleep) new
   waits_over sleep old new (mid, asks, gives) =
       chained_join makes old mid new (asking_sleep sleep true) (giving_up sleep) (asks_sleep sleep true old mid asks) (gives_up sleep mid new gives)
+
+  -- only a sleep that is there is over
+  pub waits_timed : (sleep : Option ℕ) (old new : X) → Waits relates sleep true old new → is_some sleep ≡ true
+  waits_timed None old new (mid, asks, gives) = let is = asks.0 in cc is
+  waits_timed (Some sleep) old new (mid, asks, gives) = refl

@@ -1,5 +1,5 @@
 -- Choose, with a lazy cache of identities.
-use Rattle.std.specs.Prelude.{◌≡◌, ◌⊎◌, ℕ, Bool, true, false, IsSome, IsTrue, ◌↔◌, List, [], ◌∷◌, ◌++◌, map, position, Option, None, Some, Ok, unwrap_or, codes}
+use Rattle.std.specs.Prelude.{◌≡◌, ◌⊎◌, ℕ, Bool, true, false, is_some, IsSome, IsTrue, ◌↔◌, List, [], ◌∷◌, ◌++◌, map, position, Option, None, Some, Ok, unwrap_or, codes}
 use Rattle.std.specs.Fmt.{decimal}
 use Rattle.auth_endpoint.specs.Choice.{is_id}
 use Rattle.identity_cell.specs.LazyCache.{Cache, AnswersLook, cell_at, done_at, dropped_at, expiry_by, failed_at, looked_at, put, timeout_by}
@@ -93,10 +93,11 @@ chosen_so id identity endpoint note = answers.Chosen (record { scheme = id; iden
 abbrev pub timed_out : ℕ → List ℕ
 timed_out timeout = codes "identity resolver timed out after " ++ decimal timeout ++ codes " ns"
 
--- the resolver is pending, and so the load's sleep is asked: where it is over, the load has failed and is given up
+-- the resolver is pending, and so the load's sleep is asked: where it is there and over, the load has failed and is given up
 pub record TimesOut (cache : Cache) (open_load : Option IdentityLoad) (load : OpenLoad) (a : Answer) (new : Cache) (open_after : Option IdentityLoad) (load_after : OpenLoad) (calls : List OutsideCall) : Type 0 where
   pub waiting : IdentityLoad
   pub is_open : open_load ≡ Some waiting
+  pub has_sleep : is_some waiting.sleep ≡ true
   pub answer_is : a ≡ answers.Failed (timed_out waiting.timeout)
   pub cell : new ≡ failed_at cache waiting.id waiting.ticket
   pub none_open : open_after ≡ None

@@ -1,22 +1,20 @@
 -- Served lists tell the buckets.
-use Rattle.std.proofs.Common.{◌≡◌, ◌∙◌, ap, refl, sym, subst, ℕ, Bool, true, false, List, [], ◌∷◌, ◌++◌, Option, Some, None, inl, inr, if◌then◌else◌}
+use Rattle.std.proofs.Common.{◌≡◌, ◌∙◌, ap, sym, subst, ℕ, Bool, true, false, List, [], ◌∷◌, ◌++◌, Some, None, inl, inr, if◌then◌else◌}
 use Rattle.std.specs.List.{AllByRecursion}
 use Rattle.std.proofs.lemmas.Bool.{false≢true}
 use Rattle.outside.specs.Calls.{OutsideCall}
-use Rattle.retry_parts.specs.Deciding.{IsDecided, sums_in}
-use Rattle.retry_parts.specs.Hooking.{Hooks, Offers, seen_context}
-use Rattle.retry_parts.specs.Meanings.{InterceptorMeans, QuotaMeans}
+use Rattle.retry_parts.specs.Deciding.{IsDecided}
+use Rattle.retry_parts.specs.Hooking.{Hooks, seen_context}
 use Rattle.retry_parts.specs.Offering.{finding, finding_bucket, standing_spec}
 use Rattle.retry_parts.specs.declared.strategy.RetryStrategy.{RetryStrategy}
 use Rattle.retry_parts.specs.declared.strategy.RetryStrategy.TheVariants.{Never, Standard}
 use Rattle.retry_policy.specs.Interceptors.{is_before_retry_loop}
-use Rattle.retry_policy.specs.Standing.{standing_bucket, standing_partition}
-use Rattle.retry_quota.specs.Calls.{Calls, QuotaCall}
+use Rattle.retry_policy.specs.Standing.{standing_partition}
+use Rattle.retry_quota.specs.Calls.{Calls}
 use Rattle.retry_quota.specs.Meaning.{Meaning}
 use Rattle.run_grammar.specs.declared.answer.Answer.{Answer}
 use Rattle.run_grammar.specs.declared.answer.Answer.TheVariants as answers
 use Rattle.run_grammar.specs.declared.answer.Entry.{Entry}
-use Rattle.run_grammar.specs.declared.kind.Abandonable.{Abandonable}
 use Rattle.run_grammar.specs.declared.kind.Abandonable.TheVariants as abandoned
 use Rattle.run_grammar.specs.declared.kind.ConfigureStage.TheVariants as stages
 use Rattle.run_grammar.specs.declared.question.Question.{Question}
@@ -26,13 +24,12 @@ use Rattle.smithy_context.specs.declared.context.InterceptorContext.{Interceptor
 use Rattle.smithy_context.specs.declared.intercept.HookView.{HookView}
 use Rattle.smithy_types.specs.Chain.{Chained}
 use Rattle.smithy_types.specs.declared.hook.Hook.{Hook}
-use Rattle.smithy_types.specs.declared.notes.Choice.{Choice}
 use Rattle.smithy_types.specs.declared.notes.DecideNote.{DecideNote}
 use Rattle.smithy_types.specs.declared.notes.RetryAction.{RetryAction}
 use Rattle.components.specs.Retrying.{decided_view}
 use Rattle.components.specs.Serving.{Means, Answers, Served}
 use Rattle.components.specs.declared.parts.Parts.{Parts}
-use Rattle.client_laws.specs.Telling.{calls_quota, AnswerTells, EntryTells, NoteTells, TellsBuckets}
+use Rattle.client_laws.specs.Telling.{calls_quota, AnswerTells, EntryTells, TellsBuckets}
 
 has_note : Answer → Bool
 has_note (answers.Decided choice (Some noted)) = true

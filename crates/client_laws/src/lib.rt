@@ -1,10 +1,12 @@
-//! What holds of every list that a client serves. The function does nothing: its contract is the
-//! law.
+//! What holds of every list that a client serves. The functions do nothing but call other laws:
+//! their contracts are the laws.
 #![tactic(auto)]
 
 ghost use Rattle.retry_quota.specs.Calls.{limiters_by};
+ghost use Rattle.client_laws.specs.Attempting.{SettingsBoundAttempts};
 ghost use Rattle.client_laws.specs.Telling.{DecisionsTellBuckets};
 
+use attempt_laws::attempts_are_bounded;
 use auth_endpoint::AuthScheme;
 use auth_parts::{DeserializeResponse, SerializeRequest};
 use identity_cell::ResolveIdentity;
@@ -52,3 +54,11 @@ pub fn decisions_tell_the_bucket<
       deserializes = D.deserializes;
     }) }
 {}
+
+/// A whole run whose further attempts are paid for begins as many attempts at most as the settings
+/// allow under which it decides, or one where they allow none.
+pub fn settings_bound_attempts()
+    ensures { SettingsBoundAttempts }
+{
+    attempts_are_bounded();
+}

@@ -1,5 +1,5 @@
 //! One invocation of a client's operation.
-ghost use Rattle.std.specs.Prelude.{◌≡◌, IfOk};
+ghost use Rattle.std.specs.Prelude.{◌≡◌, [], IfOk};
 ghost use Rattle.client_runs.specs.Means.{ServedBy};
 ghost use Rattle.client_runs.specs.Invoking.{Invoked, head_of};
 
@@ -20,6 +20,9 @@ const OUTPUT_KIND: u64 = 1;
 
 /// The kind of a payload that is an error of the service.
 const ERROR_KIND: u64 = 2;
+
+/// How many entries a log has room for at first: those of a run of three attempts.
+const LOG_ROOM: usize = 96;
 
 /// Runs the client's operation over this outside and this quota, which come back as the run leaves
 /// them. Answers the run's entries and how it ended.
@@ -49,12 +52,20 @@ pub fn invoke<C: ClassifyRetry, I: TakeOffer>(
     } = invocation;
     let head = head_of(input, fuel, stop);
     outside.begin_invocation(alloc, responses, client.identities.clone()?);
-    client.world.log = List::new();
+    let empty_log = log_with_room(alloc)?;
+    client.world.log = empty_log;
     client.world.swap_parts(outside, quota);
     let ending = run_over(alloc, &client.operation, &head, &mut client.world)?;
     client.world.swap_parts(outside, quota);
     let log = mem::replace(&mut client.world.log, List::new());
     Ok((log, ending))
+}
+
+// A log without entries, with room for those of a run of some attempts.
+fn log_with_room(alloc: Global) -> Result<List<Entry>, OutOfMemory>
+    ensures { IfOk result (λ log. log ≡ []) }
+{
+    Ok(List::from_vec(Vec::with_capacity(alloc, LOG_ROOM)?))
 }
 
 /// What a run of the service's operation is begun with.

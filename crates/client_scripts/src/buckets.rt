@@ -11,9 +11,9 @@ use serde_json::Value;
 use smithy_types::List;
 use std::alloc::Global;
 
-// The terms of a bucket.
+/// The terms of a bucket.
 #[tactic(auto, unfolding(crate::specs::Buckets::bucket_terms_at))]
-fn read_bucket_terms(value: &Value) -> Result<BucketTerms, ReadError>
+pub fn read_bucket_terms(value: &Value) -> Result<BucketTerms, ReadError>
     ensures { Reads result (bucket_terms_at (view value.now)) }
 {
     let (capacity, retry, throttling, transient, reward, rate) = read::sextuple(value)?;

@@ -12,8 +12,6 @@ pub mod retries;
 pub mod schemes;
 pub mod script;
 pub mod terms;
-#[cfg(test)]
-mod tests;
 
 pub use limits::{capacity_fits, client_fits, client_script_fits};
 pub use script::{ClientScript, read_client_script};

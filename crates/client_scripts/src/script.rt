@@ -1,6 +1,5 @@
 //! Scripts of `client`.
 ghost use Rattle.std.specs.Prelude.{◌≡◌, IfOk, IsErrOf};
-ghost use Rattle.serde_json.specs.Errors.{IsMemory};
 ghost use Rattle.serde_json.specs.View.{view};
 ghost use Rattle.json_forms.specs.Reading.{Reads};
 ghost use Rattle.client_scripts.specs.Placed.{IsPlaced};
@@ -11,9 +10,10 @@ use crate::client::read_clients;
 use crate::invocation::read_invocations;
 use crate::members::only_members;
 use crate::terms::{BucketTerms, ClientObject, InvocationRecord};
+use json_forms::read::refusal;
 use json_forms::{ReadError, read};
 use outside_scripts::read_words;
-use serde_json::{Error, Value};
+use serde_json::Value;
 use smithy_types::List;
 use std::alloc::Global;
 
@@ -46,17 +46,6 @@ pub fn read_client_script(alloc: Global, bytes: &[u8]) -> Result<ClientScript, R
     match Value::from_slice(alloc, bytes) {
         Ok(value) => script_in(alloc, &value),
         Err(error) => Err(refusal(&error)),
-    }
-}
-
-// Why a text was not read.
-fn refusal(error: &Error) -> ReadError
-    ensures { result ≡ ReadError.Refused → ¬ (IsMemory error.now) }
-{
-    if error.is_memory() {
-        ReadError::Memory
-    } else {
-        ReadError::Refused
     }
 }
 

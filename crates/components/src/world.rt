@@ -1,7 +1,6 @@
 //! The world of a client.
-ghost use Rattle.std.specs.Prelude.{◌≡◌, [], ◌∷◌, ◌++◌, List, Ok, IfOk};
+ghost use Rattle.std.specs.Prelude.{◌≡◌, ◌<◌, [], ◌∷◌, ◌++◌, Ok, IfOk, vec_len, vec_capacity};
 ghost use Rattle.run_grammar.specs.Entry.{entry};
-ghost use Rattle.run_grammar.specs.declared.answer.Entry.{Entry};
 ghost use Rattle.auth_parts.specs.Identities.{loads_of};
 ghost use Rattle.components.specs.Resting.{Exchanges};
 ghost use Rattle.retry_parts.specs.Strategies.{Closes};
@@ -19,6 +18,7 @@ use retry_quota::Quota;
 use run_grammar::{Answer, Entry, Question};
 use smithy_types::{List, OutOfMemory};
 use std::alloc::Global;
+use std::mem;
 
 /// A client's parts, with the log of what they were asked.
 #[derive(Drop)]
@@ -89,17 +89,6 @@ impl<
     {
         self.parts.strategy.close(&mut self.parts.quota);
     }
-
-    // Puts the question with this answer in the place of the last entry.
-    fn note(&mut self, question: Question, answer: Answer)
-        requires { (before : List Entry) × (last : Entry) × (self.old.log ≡ before ++ last ∷ []) }
-        ensures log { (before : List Entry) (last : Entry) → self.old.log ≡ before ++ last ∷ [] →
-            self.new.log ≡ before ++ entry question answer ∷ [] }
-        ensures parts { self.new.parts ≡ self.old.parts }
-    {
-        let place = self.log.len() - 1;
-        self.log.replace(place, Entry { question, answer });
-    }
 }
 
 impl<
@@ -144,26 +133,33 @@ impl<
     }) w.parts l v.parts };
 
     fn ask(&mut self, alloc: Global, question: Question) -> Result<Answer, OutOfMemory> {
-        self.log.push(
-            alloc,
-            Entry {
-                question: Question::Park,
-                answer: Answer::NoMemory,
-            },
-        )?;
+        let mut entries = mem::replace(&mut self.log, List::new()).into_vec(alloc);
+        if entries.reserve(1).is_err() {
+            self.log = List::from_vec(entries);
+            return Err(OutOfMemory);
+        }
         match copied(self.parts.answer(alloc, &question)) {
             Ok((answer, noted)) => {
-                self.note(question, noted);
+                self.log = with_entry(entries, question, noted);
                 Ok(answer)
             }
             Err(refused) => {
-                self.note(question, Answer::NoMemory);
+                self.log = with_entry(entries, question, Answer::NoMemory);
                 Err(refused)
             }
         }
     }
 
     ghost relates_nothing = { λ w. refl };
+}
+
+// A log with this question and its answer at the end. There is room for them.
+fn with_entry(mut entries: Vec<Entry>, question: Question, answer: Answer) -> List<Entry>
+    requires { vec_len entries < vec_capacity entries }
+    ensures { result ≡ entries.items ++ entry question answer ∷ [] }
+{
+    entries.push_reserved(Entry { question, answer });
+    List::from_vec(entries)
 }
 
 // An answer and a copy of it.

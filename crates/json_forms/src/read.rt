@@ -1,5 +1,6 @@
 //! Reading of plain JSON: numbers, texts and arrays of a fixed length.
 ghost use Rattle.std.specs.Prelude.{◌≡◌, ◌^◌};
+ghost use Rattle.serde_json.specs.Errors.{IsMemory};
 ghost use Rattle.serde_json.specs.Find.{as_array, as_bool, as_str, get};
 ghost use Rattle.serde_json.specs.View.{view, items_view};
 ghost use Rattle.json_forms.specs.Plain.{number_at, number_below, pair_at, triple_at, quadruple_at};
@@ -7,7 +8,7 @@ ghost use Rattle.json_forms.specs.Plain.{quintuple_at, sextuple_at, septuple_at}
 ghost use Rattle.json_forms.specs.Reading.{Reads, Gives};
 ghost use Rattle.json_forms.specs.Tuples.{two_of, three_of, four_of, five_of, six_of, seven_of};
 
-use serde_json::Value;
+use serde_json::{Error, Value};
 use smithy_types::{OutOfMemory, Text};
 use std::alloc::{AllocError, AllocFailed, Global};
 
@@ -47,6 +48,17 @@ impl From<OutOfMemory> for ReadError {
 
     fn from(_error: OutOfMemory) -> ReadError {
         ReadError::Memory
+    }
+}
+
+/// Why a text was not read as JSON.
+pub fn refusal(error: &Error) -> ReadError
+    ensures { result ≡ ReadError.Refused → ¬ (IsMemory error.now) }
+{
+    if error.is_memory() {
+        ReadError::Memory
+    } else {
+        ReadError::Refused
     }
 }
 

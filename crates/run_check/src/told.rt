@@ -3,7 +3,6 @@ ghost use Rattle.std.specs.Prelude.{◌≡◌, IfOk, IsErrOf, map};
 ghost use Rattle.json_back.specs.Lines.{read_lines};
 ghost use Rattle.json_forms.specs.Lists.{list_of};
 ghost use Rattle.json_forms.specs.Reading.{Gives, Reads};
-ghost use Rattle.serde_json.specs.Errors.{IsMemory};
 ghost use Rattle.serde_json.specs.View.{items_view, view};
 ghost use Rattle.run_check.specs.Told.{IsTold, between, call_at, first_of, head_at, stop_at};
 ghost use Rattle.run_check.specs.Told.{told_at, told_by, told_parts};
@@ -14,7 +13,7 @@ use json_forms::forms::read_word;
 use json_forms::{ReadError, read};
 use run_grammar::{Answer, Kind, StopPoint};
 use runcheck::RunHead;
-use serde_json::{Error, Value};
+use serde_json::Value;
 use smithy_types::List;
 use std::alloc::Global;
 use value_json::answer::read_kind;
@@ -56,18 +55,7 @@ fn told_of(alloc: Global, text: &str) -> Result<Told, ReadError>
 {
     match values_of_lines(alloc, text) {
         Ok(values) => told_in(alloc, values.as_slice()),
-        Err(error) => Err(refusal(&error)),
-    }
-}
-
-// Why a text was not read.
-fn refusal(error: &Error) -> ReadError
-    ensures { result ≡ ReadError.Refused → ¬ (IsMemory error.now) }
-{
-    if error.is_memory() {
-        ReadError::Memory
-    } else {
-        ReadError::Refused
+        Err(error) => Err(read::refusal(&error)),
     }
 }
 

@@ -2,4 +2,5 @@ pub mod Lines
 pub mod Stopped
 pub mod Depths
 pub mod Readable
+pub mod PlainLines
 pub mod Transmits

@@ -4,6 +4,7 @@
 pub mod ending;
 pub mod head;
 pub mod laws;
+mod plain;
 pub mod print;
 
 pub use ending::Ending;

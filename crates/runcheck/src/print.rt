@@ -1,14 +1,17 @@
 //! The print of a run.
-ghost use Rattle.std.specs.Prelude.{◌≡◌, ◌≤◌, ◌+◌, ◌++◌, true, IfOk, IsUtf8, OnOk, option_copied};
+ghost use Rattle.std.specs.Prelude.{◌≡◌, ◌≤◌, ◌+◌, ◌++◌, true, IfOk, IfSome, IsUtf8, OnOk};
+ghost use Rattle.std.specs.Prelude.{option_copied};
 ghost use Rattle.serde_json.specs.Data.{depth};
 ghost use Rattle.serde_json.specs.Read.{max_depth};
 ghost use Rattle.json_back.specs.Lines.{are_readable, is_readable};
 ghost use Rattle.json_forms.specs.JsonData.{data_of};
+ghost use Rattle.runcheck.specs.Plain.{IsPlain};
 ghost use Rattle.runcheck.specs.Print.{line, begin_data, transmitted, ending_data, entry_data};
 ghost use Rattle.runcheck.specs.Print.{entries_data, entries_text, run_data, run_text};
 
 use crate::ending::{Ending, print_ending};
 use crate::head::RunHead;
+use crate::plain::{word_of, write_words};
 use json_forms::{Json, Row};
 use run_grammar::{Answer, Entry, Question};
 use smithy_types::{HttpRequest, OutOfMemory, Shared};
@@ -100,7 +103,40 @@ pub fn print_entries(alloc: Global, entries: &[Entry], out: &mut Vec<u8>) -> Res
     Ok(())
 }
 
+// Writes the line of an entry.
+#[tactic(auto, using(crate::proofs::PlainLines::plain_readable))]
 fn write_entry(
+    alloc: Global,
+    number: u64,
+    entry: &Entry,
+    out: &mut Vec<u8>,
+) -> Result<(), OutOfMemory>
+    ensures text { OnOk result (out.new.items ≡ out.old.items
+        ++ line (entry_data number entry.now)) }
+    ensures readable { OnOk result (is_readable (entry_data number entry.now) ≡ true) }
+    ensures characters { OnOk result (IsUtf8 (line (entry_data number entry.now))) }
+{
+    match plain_word(entry) {
+        Some(word) => {
+            write_words(number, entry.question.kind(), word, out)?;
+            Ok(())
+        }
+        None => write_parts(alloc, number, entry, out),
+    }
+}
+
+// The word that the answer is printed as, where no request is shown.
+fn plain_word(entry: &Entry) -> Option<&'static str>
+    ensures { IfSome result (λ w. IsPlain entry.now w.now) }
+{
+    match transmitted(&entry.question, &entry.answer) {
+        Some(_) => None,
+        None => word_of(&entry.answer),
+    }
+}
+
+// Writes the line of an entry by the JSON value of its parts.
+fn write_parts(
     alloc: Global,
     number: u64,
     entry: &Entry,

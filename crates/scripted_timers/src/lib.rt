@@ -10,6 +10,3 @@ pub use notes::{Note, Notes};
 pub use operation::{ask, state_of};
 pub use polls::{PollResult, PolledValue, ScriptedPoll};
 pub use scripted_timers::ScriptedTimers;
-
-#[cfg(test)]
-mod tests;

@@ -2,7 +2,7 @@
 use Rattle.std.specs.Prelude.{ℕ, ◌≡◌, ◌≤◌, List, [], Bool, true, ◌&&◌, ◌||◌, Option, Some, None, codes, fold, nat_le, nat_eq, length, IsUtf8, if◌then◌else◌}
 use Rattle.std.specs.Cmp.Lexicographic.{pointwise}
 use Rattle.std.specs.List.{list_all}
-use Rattle.serde_json.specs.Data.{Data, Members, no_members, member}
+use Rattle.serde_json.specs.Data.{Data, Items, Members, no_members, member}
 use Rattle.serde_json.specs.Find.{get, as_array, as_object, as_str}
 use Rattle.serde_json.specs.Read.{read}
 use Rattle.smithy_types.specs.declared.kinds.StopPoint.{StopPoint}
@@ -46,6 +46,10 @@ stop_at d = as_str d >>= named stop_text stop_points
 abbrev pub stop_of : Option Data → Option StopPoint
 stop_of None = Some stops.None
 stop_of (Some d) = stop_at d
+
+-- the items of an array that is a member
+abbrev pub items_at : List ℕ → Data → Option Items
+items_at name d = get name d >>= as_array
 
 unfoldable pub script_at : Data → Option Script
 script_at d = listed_at d >>= λ _. get (codes "input") d >>= payload_at >>= λ i. get (codes "fuel") d >>= number_at >>= λ f. stop_of (get (codes "stop") d) >>= λ s.

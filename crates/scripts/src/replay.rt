@@ -1,19 +1,20 @@
 //! Scripts of `replay`.
 ghost use Rattle.std.specs.Prelude.{◌≡◌, [], true, nat_le, length, IfOk, IsErrOf, option_map};
-ghost use Rattle.serde_json.specs.Errors.{IsMemory};
 ghost use Rattle.serde_json.specs.View.{view, items_view, members_view};
 ghost use Rattle.json_forms.specs.Lists.{list_of};
-ghost use Rattle.json_forms.specs.Reading.{Reads};
+ghost use Rattle.json_forms.specs.Reading.{Gives, Reads};
+ghost use Rattle.serde_json.specs.Find.{get};
 ghost use Rattle.scripts.specs.Replay.{script_answer_at, is_listed, members_all, listed_at};
+ghost use Rattle.scripts.specs.Replay.{items_at};
 ghost use Rattle.scripts.specs.Replay.{stop_at, stop_of, script_at, script_spellable, IsScript};
 ghost use Rattle.scripts.specs.Replay.{answers_fit, keys_fit, is_within};
 
 use crate::limits::{add_keys, answer_fits};
 use json_forms::ReadError;
-use json_forms::read::{items, member, number, pair, str};
+use json_forms::read::{member, number, pair, refusal, str};
 use orchestrate::ScriptAnswer;
 use runcheck::RunHead;
-use serde_json::{Error, Map, Value};
+use serde_json::{Map, Value};
 use smithy_context::SettingKey;
 use smithy_types::{List, OutOfMemory, StopPoint};
 use std::alloc::Global;
@@ -45,33 +46,23 @@ pub fn read_script(alloc: Global, bytes: &[u8]) -> Result<Script, ReadError>
     ensures refused { IsErrOf result ReadError.Refused → (s : Script) → IsScript bytes.now s → ⊥ }
 {
     match Value::from_slice(alloc, bytes) {
-        Ok(value) => script_in(alloc, &value),
+        Ok(value) => script_in(alloc, value),
         Err(error) => Err(refusal(&error)),
     }
 }
 
-// Why a text was not read.
-fn refusal(error: &Error) -> ReadError
-    ensures { result ≡ ReadError.Refused → ¬ (IsMemory error.now) }
-{
-    if error.is_memory() {
-        ReadError::Memory
-    } else {
-        ReadError::Refused
-    }
-}
-
+// The script of this value. Each answer's value is let go as it is read.
 #[tactic(auto, unfolding(crate::specs::Replay::script_at))]
-fn script_in(alloc: Global, value: &Value) -> Result<Script, ReadError>
-    ensures { Reads result (script_at (view value.now)) }
+fn script_in(alloc: Global, mut value: Value) -> Result<Script, ReadError>
+    ensures { Reads result (script_at (view value)) }
 {
-    only_listed(value)?;
-    let input = read_payload(alloc, member(value, "input")?)?;
-    let fuel = number(member(value, "fuel")?)?;
+    only_listed(&value)?;
+    let input = read_payload(alloc, member(&value, "input")?)?;
+    let fuel = number(member(&value, "fuel")?)?;
     let stop = stop_in(value.get("stop"))?;
-    let output_kind = number(member(value, "output_kind")?)?;
-    let error_kind = number(member(value, "error_kind")?)?;
-    let list = items(member(value, "answers")?)?;
+    let output_kind = number(member(&value, "output_kind")?)?;
+    let error_kind = number(member(&value, "error_kind")?)?;
+    let list = take_items(&mut value, "answers")?;
     let answers = read_answers(alloc, list)?;
     let head = RunHead {
         input,
@@ -81,6 +72,26 @@ fn script_in(alloc: Global, value: &Value) -> Result<Script, ReadError>
         error_kind,
     };
     Ok(Script { head, answers })
+}
+
+// The items of an array that is a member, which are moved out.
+fn take_items(value: &mut Value, name: &str) -> Result<Vec<Value>, ReadError>
+    ensures { Gives (λ v. items_view v.items) result (items_at name.now (view value.old)) }
+{
+    match take_member(value, name)? {
+        Value::Array(items) => Ok(items),
+        _ => Err(ReadError::Refused),
+    }
+}
+
+// A member, which is moved out.
+fn take_member(value: &mut Value, name: &str) -> Result<Value, ReadError>
+    ensures { Gives view result (get name.now (view value.old)) }
+{
+    match value.get_mut(name) {
+        Some(found) => Ok(found.take()),
+        None => Err(ReadError::Refused),
+    }
 }
 
 // The stop point, none where it is left out.
@@ -143,14 +154,13 @@ fn is_listed(name: &str) -> bool
         || name == "answers"
 }
 
-// The answers, in their order.
-#[tactic(auto, using(crate::proofs::ScriptAnswers::answer_reading))]
-fn read_answers(alloc: Global, list: &[Value]) -> Result<List<ScriptAnswer>, ReadError>
-    ensures { Reads result (list_of script_answer_at (items_view list.now)) }
+// The answers, in their order. Each value is let go when it is read.
+fn read_answers(alloc: Global, list: Vec<Value>) -> Result<List<ScriptAnswer>, ReadError>
+    ensures { Reads result (list_of script_answer_at (items_view list.items)) }
 {
     let mut answers = List::new();
     for value in list {
-        match script_answer(alloc, value) {
+        match script_answer(alloc, &value) {
             Ok(answer) => answers.push(alloc, answer)?,
             Err(error) => return Err(error),
         }

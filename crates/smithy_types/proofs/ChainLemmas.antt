@@ -1,5 +1,5 @@
 -- Chains are joined, grow by one step, and are carried from one kind of step to another.
-use Rattle.std.proofs.Common.{◌≡◌, List, [], ◌∷◌, ◌++◌, map, subst, refl}
+use Rattle.std.proofs.Common.{List, [], ◌∷◌, ◌++◌, map, subst, refl}
 use Rattle.smithy_types.specs.Chain.{Chained}
 
 module _ {T C : Type 0} (makes : T → C → T → Type 0) where

@@ -1,5 +1,5 @@
 -- The header list behind a handle that may not have its map yet.
-use Rattle.std.specs.Prelude.{Option, None, Some, ℕ, List, []}
+use Rattle.std.specs.Prelude.{Option, None, Some, []}
 use Rattle.std.specs.declared.sync.Arc.{Arc}
 use Rattle.std.specs.Global.{Global}
 use Rattle.http_header.specs.HeaderMap.{Entries}

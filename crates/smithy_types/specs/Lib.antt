@@ -2,4 +2,5 @@ pub mod Chain
 pub mod HeaderList
 pub mod ListItems
 pub mod Partition
+pub mod Reserved
 pub mod Config

@@ -1,7 +1,7 @@
-pub mod Joined
 pub mod HeaderReading
 pub mod PrintedForms
 pub mod PrintedNames
+pub mod FoundNames
 pub mod PrintedHeads
 pub mod PrintedOutcomes
 pub mod PrintedLayers

@@ -22,7 +22,7 @@ use crate::http::{
     print_endpoint, print_identity, print_optional_endpoint, print_request, print_response,
     read_endpoint, read_identity, read_optional_endpoint, read_request, read_response,
 };
-use crate::names::{front_of_kind, kind_named, name_of_kind};
+use crate::names::{kind_named, kind_title};
 use crate::note::{
     print_decided, print_optional_choose_note, read_choice, read_decide_note,
     read_optional_choose_note,
@@ -44,11 +44,11 @@ use std::alloc::Global;
 pub fn print_kind(alloc: Global, kind: Kind) -> Result<Json, OutOfMemory>
     ensures { IfOk result (λ j. data_of j ≡ kind_data kind) }
 {
-    Json::joined(alloc, front_of_kind(kind), name_of_kind(kind))
+    Json::text(alloc, kind_title(kind))
 }
 
-// Whether the hook writes nothing, sets nothing and doesn't fail.
-fn does_nothing(answer: &HookAnswer) -> bool
+/// Whether the hook writes nothing, sets nothing and doesn't fail.
+pub fn does_nothing(answer: &HookAnswer) -> bool
     ensures { result ≡ does_nothing answer.now }
 {
     answer.change.is_none() && answer.settings.is_empty() && answer.failure.is_none()

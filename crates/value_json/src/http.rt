@@ -232,9 +232,18 @@ fn read_header(alloc: Global, value: &Value) -> Result<(HeaderName, HeaderValue)
 pub fn read_headers(alloc: Global, value: &Value) -> Result<Headers, ReadError>
     ensures { Reads result (headers_at (view value.now)) }
 {
-    let items = read::items(value)?;
-    let map = header_items(alloc, items)?;
-    Ok(Headers::from_map(alloc, map)?)
+    header_list(alloc, read::items(value)?)
+}
+
+// The headers of these items. An empty list takes no memory.
+#[tactic(auto, unfolding(json_forms::specs::Lists::list_of))]
+fn header_list(alloc: Global, items: &[Value]) -> Result<Headers, ReadError>
+    ensures { Reads result (header_items (items_view items.now)) }
+{
+    match items {
+        [] => Ok(Headers::new()),
+        _ => Ok(Headers::from_map(alloc, header_items(alloc, items)?)?),
+    }
 }
 
 #[tactic(auto, using(crate::proofs::HeaderReading::header_reading))]

@@ -1,9 +1,8 @@
 //! The names that stand in scripts and prints.
-ghost use Rattle.std.specs.Prelude.{◌≡◌, ◌++◌, nat_eq, option_copied};
+ghost use Rattle.std.specs.Prelude.{◌≡◌, nat_eq};
 ghost use Rattle.std.specs.Cmp.Lexicographic.{pointwise};
 ghost use Rattle.json_forms.specs.Forms.{named};
-ghost use Rattle.value_json.specs.Names.{hook_text, role_text, stage_text, abandoned_text};
-ghost use Rattle.value_json.specs.Names.{kind_front, kind_name, kind_text, error_kind_text};
+ghost use Rattle.value_json.specs.Names.{hook_text, kind_text, error_kind_text};
 ghost use Rattle.value_json.specs.Names.{stop_text, mode_text, reconnect_text, version_text};
 ghost use Rattle.value_json.specs.Names.{spec_versions, error_kinds, stop_points, retry_modes};
 ghost use Rattle.value_json.specs.Names.{reconnect_modes, all_kinds};
@@ -39,70 +38,16 @@ pub fn hook_name(hook: Hook) -> &'static str
     }
 }
 
-/// What a sleep is for.
-pub fn role_name(role: Role) -> &'static str
-    ensures { result.now ≡ role_text role }
-{
-    match role {
-        Role::Operation => "Operation",
-        Role::Attempt => "Attempt",
-        Role::Send => "Send",
-        Role::Retry => "Retry",
-        Role::LongPoll => "LongPoll",
-    }
-}
-
-/// A step of the configuration.
-pub fn stage_name(stage: ConfigureStage) -> &'static str
-    ensures { result.now ≡ stage_text stage }
-{
-    match stage {
-        ConfigureStage::Client => "Client",
-        ConfigureStage::Operation => "Operation",
-        ConfigureStage::Final => "Final",
-    }
-}
-
-/// What is given up.
-pub fn abandoned_name(abandoned: Abandonable) -> &'static str
-    ensures { result.now ≡ abandoned_text abandoned }
-{
-    match abandoned {
-        Abandonable::Load => "Load",
-        Abandonable::Choose => "Choose",
-        Abandonable::Endpoint => "Endpoint",
-        Abandonable::Transmit => "Transmit",
-        Abandonable::Body => "Body",
-        Abandonable::WaitSend => "Wait Send",
-        Abandonable::WaitRetry => "Wait Retry",
-        Abandonable::WaitLongPoll => "Wait LongPoll",
-    }
-}
-
-/// What a kind of question with a part begins with. One without a part begins with its name.
-pub fn front_of_kind(kind: Kind) -> &'static str
-    ensures { result.now ≡ kind_front kind }
+/// A kind of question, as it is printed: its name, behind what it is of where it has a part.
+pub fn kind_title(kind: Kind) -> &'static str
+    ensures { result.now ≡ kind_text kind }
 {
     match kind {
-        Kind::Configure(_) => "Configure ",
-        Kind::Hook(_) => "Hook ",
-        Kind::Start(_) => "Start ",
-        Kind::Wait(_) => "Wait ",
-        Kind::Abandon(_) => "Abandon ",
-        _ => "",
-    }
-}
-
-/// A kind of question, or its part where it has one.
-pub fn name_of_kind(kind: Kind) -> &'static str
-    ensures { result.now ≡ kind_name kind }
-{
-    match kind {
-        Kind::Configure(stage) => stage_name(stage),
-        Kind::Hook(hook) => hook_name(hook),
-        Kind::Start(role) => role_name(role),
-        Kind::Wait(role) => role_name(role),
-        Kind::Abandon(abandoned) => abandoned_name(abandoned),
+        Kind::Configure(stage) => configure_title(stage),
+        Kind::Hook(hook) => hook_title(hook),
+        Kind::Start(role) => start_title(role),
+        Kind::Wait(role) => wait_title(role),
+        Kind::Abandon(abandoned) => abandon_title(abandoned),
         Kind::Serialize => "Serialize",
         Kind::Load => "Load",
         Kind::Initial => "Initial",
@@ -116,6 +61,87 @@ pub fn name_of_kind(kind: Kind) -> &'static str
         Kind::Deserialize => "Deserialize",
         Kind::Decide => "Decide",
         Kind::Park => "Park",
+    }
+}
+
+// A step of the configuration, as a kind of question.
+fn configure_title(stage: ConfigureStage) -> &'static str
+    ensures { result.now ≡ kind_text (Kind.Configure stage) }
+{
+    match stage {
+        ConfigureStage::Client => "Configure Client",
+        ConfigureStage::Operation => "Configure Operation",
+        ConfigureStage::Final => "Configure Final",
+    }
+}
+
+// A hook, as a kind of question.
+fn hook_title(hook: Hook) -> &'static str
+    ensures { result.now ≡ kind_text (Kind.Hook hook) }
+{
+    match hook {
+        Hook::ReadBeforeExecutionClient => "Hook read_before_execution client",
+        Hook::ReadBeforeExecutionOperation => "Hook read_before_execution operation",
+        Hook::ModifyBeforeSerialization => "Hook modify_before_serialization",
+        Hook::ReadBeforeSerialization => "Hook read_before_serialization",
+        Hook::ReadAfterSerialization => "Hook read_after_serialization",
+        Hook::ModifyBeforeRetryLoop => "Hook modify_before_retry_loop",
+        Hook::ReadBeforeAttempt => "Hook read_before_attempt",
+        Hook::ModifyBeforeSigning => "Hook modify_before_signing",
+        Hook::ReadBeforeSigning => "Hook read_before_signing",
+        Hook::ReadAfterSigning => "Hook read_after_signing",
+        Hook::ModifyBeforeTransmit => "Hook modify_before_transmit",
+        Hook::ReadBeforeTransmit => "Hook read_before_transmit",
+        Hook::ReadAfterTransmit => "Hook read_after_transmit",
+        Hook::ModifyBeforeDeserialization => "Hook modify_before_deserialization",
+        Hook::ReadBeforeDeserialization => "Hook read_before_deserialization",
+        Hook::ReadAfterDeserialization => "Hook read_after_deserialization",
+        Hook::ModifyBeforeAttemptCompletion => "Hook modify_before_attempt_completion",
+        Hook::ReadAfterAttempt => "Hook read_after_attempt",
+        Hook::ModifyBeforeCompletion => "Hook modify_before_completion",
+        Hook::ReadAfterExecution => "Hook read_after_execution",
+    }
+}
+
+// The start of a sleep, as a kind of question.
+fn start_title(role: Role) -> &'static str
+    ensures { result.now ≡ kind_text (Kind.Start role) }
+{
+    match role {
+        Role::Operation => "Start Operation",
+        Role::Attempt => "Start Attempt",
+        Role::Send => "Start Send",
+        Role::Retry => "Start Retry",
+        Role::LongPoll => "Start LongPoll",
+    }
+}
+
+// A sleep, as a kind of question.
+fn wait_title(role: Role) -> &'static str
+    ensures { result.now ≡ kind_text (Kind.Wait role) }
+{
+    match role {
+        Role::Operation => "Wait Operation",
+        Role::Attempt => "Wait Attempt",
+        Role::Send => "Wait Send",
+        Role::Retry => "Wait Retry",
+        Role::LongPoll => "Wait LongPoll",
+    }
+}
+
+// What is given up, as a kind of question.
+fn abandon_title(abandoned: Abandonable) -> &'static str
+    ensures { result.now ≡ kind_text (Kind.Abandon abandoned) }
+{
+    match abandoned {
+        Abandonable::Load => "Abandon Load",
+        Abandonable::Choose => "Abandon Choose",
+        Abandonable::Endpoint => "Abandon Endpoint",
+        Abandonable::Transmit => "Abandon Transmit",
+        Abandonable::Body => "Abandon Body",
+        Abandonable::WaitSend => "Abandon Wait Send",
+        Abandonable::WaitRetry => "Abandon Wait Retry",
+        Abandonable::WaitLongPoll => "Abandon Wait LongPoll",
     }
 }
 
@@ -237,10 +263,16 @@ const ERROR_KINDS: [ErrorKind; 4] = [
 ];
 
 /// The kind of question that is printed so.
+#[tactic(auto, using(crate::proofs::FoundNames::found_by_name))]
 pub fn kind_named(text: &str) -> Option<Kind>
     ensures { result ≡ named kind_text all_kinds text.now }
 {
-    first_named(&ALL_KINDS, text)
+    let likely = likely_kind(text.as_bytes());
+    if is_named(likely, text) {
+        Some(likely)
+    } else {
+        first_named(&ALL_KINDS, text)
+    }
 }
 
 fn first_named(kinds: &[Kind], text: &str) -> Option<Kind>
@@ -252,21 +284,136 @@ fn first_named(kinds: &[Kind], text: &str) -> Option<Kind>
 fn is_named(kind: Kind, text: &str) -> bool
     ensures { result ≡ pointwise nat_eq text.now (kind_text kind) }
 {
-    let front = front_of_kind(kind).as_bytes();
-    let name = name_of_kind(kind).as_bytes();
-    is_joined(text.as_bytes(), front, name)
+    text == kind_title(kind)
 }
 
-// Whether the text is these two parts.
-#[tactic(auto, using(crate::proofs::Joined::joined))]
-fn is_joined(text: &[u8], front: &[u8], back: &[u8]) -> bool
-    ensures { result ≡ pointwise nat_eq text.now (front.now ++ back.now) }
-{
-    if text.len() < front.len() {
-        return false;
+// The kind whose name may be this one: names are told apart by their lengths, and by one byte
+// where lengths are equal. Whether it is named so is still to be tested.
+fn likely_kind(name: &[u8]) -> Kind {
+    match name.len() {
+        4 => match byte_at(name, 0) {
+            b'L' => Kind::Load,
+            b'S' => Kind::Sign,
+            b'B' => Kind::Body,
+            _ => Kind::Park,
+        },
+        5 => Kind::Apply,
+        6 => match byte_at(name, 0) {
+            b'C' => Kind::Choose,
+            b'S' => Kind::Stream,
+            _ => Kind::Decide,
+        },
+        7 => Kind::Initial,
+        8 => match byte_at(name, 0) {
+            b'E' => Kind::Endpoint,
+            _ => Kind::Transmit,
+        },
+        _ => likely_longer(name),
     }
-    let (head, tail) = text.split_at(front.len());
-    head == front && tail == back
+}
+
+// The same, of names of at least nine bytes.
+fn likely_longer(name: &[u8]) -> Kind {
+    match byte_at(name, 0) {
+        b'H' => Kind::Hook(likely_hook(name)),
+        b'S' => match byte_at(name, 1) {
+            b't' => Kind::Start(likely_role(byte_at(name, 6))),
+            _ => Kind::Serialize,
+        },
+        b'W' => Kind::Wait(likely_role(byte_at(name, 5))),
+        b'A' => Kind::Abandon(likely_abandoned(name)),
+        b'C' => Kind::Configure(likely_stage(byte_at(name, 10))),
+        _ => Kind::Deserialize,
+    }
+}
+
+// The step of the configuration whose name begins so.
+fn likely_stage(first: u8) -> ConfigureStage {
+    match first {
+        b'C' => ConfigureStage::Client,
+        b'O' => ConfigureStage::Operation,
+        _ => ConfigureStage::Final,
+    }
+}
+
+// What a sleep is for, where its name begins so.
+fn likely_role(first: u8) -> Role {
+    match first {
+        b'O' => Role::Operation,
+        b'A' => Role::Attempt,
+        b'S' => Role::Send,
+        b'R' => Role::Retry,
+        _ => Role::LongPoll,
+    }
+}
+
+// What may be given up, of the name of a kind of question.
+fn likely_abandoned(name: &[u8]) -> Abandonable {
+    match name.len() {
+        12 => match byte_at(name, 8) {
+            b'L' => Abandonable::Load,
+            _ => Abandonable::Body,
+        },
+        14 => Abandonable::Choose,
+        16 => match byte_at(name, 8) {
+            b'E' => Abandonable::Endpoint,
+            _ => Abandonable::Transmit,
+        },
+        17 => Abandonable::WaitSend,
+        18 => Abandonable::WaitRetry,
+        _ => Abandonable::WaitLongPoll,
+    }
+}
+
+// The hook that may have this name, with what the name of its kind begins with.
+fn likely_hook(name: &[u8]) -> Hook {
+    match name.len() {
+        23 => match byte_at(name, 16) {
+            b's' => Hook::ReadAfterSigning,
+            _ => Hook::ReadAfterAttempt,
+        },
+        24 => match byte_at(name, 17) {
+            b'a' => Hook::ReadBeforeAttempt,
+            b's' => Hook::ReadBeforeSigning,
+            _ => Hook::ReadAfterTransmit,
+        },
+        25 => match byte_at(name, 17) {
+            b't' => Hook::ReadBeforeTransmit,
+            _ => Hook::ReadAfterExecution,
+        },
+        26 => Hook::ModifyBeforeSigning,
+        27 => Hook::ModifyBeforeTransmit,
+        29 => match byte_at(name, 19) {
+            b'r' => Hook::ModifyBeforeRetryLoop,
+            b'c' => Hook::ModifyBeforeCompletion,
+            _ => Hook::ReadAfterSerialization,
+        },
+        _ => likely_longer_hook(name),
+    }
+}
+
+// The same, of names of at least thirty bytes.
+fn likely_longer_hook(name: &[u8]) -> Hook {
+    match name.len() {
+        30 => Hook::ReadBeforeSerialization,
+        31 => Hook::ReadAfterDeserialization,
+        32 => match byte_at(name, 5) {
+            b'm' => Hook::ModifyBeforeSerialization,
+            _ => Hook::ReadBeforeDeserialization,
+        },
+        33 => Hook::ReadBeforeExecutionClient,
+        34 => Hook::ModifyBeforeDeserialization,
+        36 => Hook::ReadBeforeExecutionOperation,
+        _ => Hook::ModifyBeforeAttemptCompletion,
+    }
+}
+
+// The byte at this place, and 0 behind the last one.
+fn byte_at(bytes: &[u8], place: usize) -> u8 {
+    match bytes.get(place) {
+        Some(byte) => *byte,
+        None => 0,
+    }
 }
 
 /// The kind of error that is printed so.

@@ -8,6 +8,3 @@ pub mod walk;
 
 pub use command::WaitCommand;
 pub use ending::WaitEnding;
-
-#[cfg(test)]
-mod tests;

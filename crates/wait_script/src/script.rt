@@ -1,6 +1,5 @@
 //! Scripts of `wait`.
 ghost use Rattle.std.specs.Prelude.{◌≡◌, [], IfOk, IsErrOf};
-ghost use Rattle.serde_json.specs.Errors.{IsMemory};
 ghost use Rattle.serde_json.specs.View.{view, items_view, members_view};
 ghost use Rattle.json_forms.specs.Lists.{list_of};
 ghost use Rattle.json_forms.specs.Plain.{number_at};
@@ -12,9 +11,9 @@ ghost use Rattle.wait_script.specs.Script.{result_at, script_at, some_of, state_
 use crate::states::state_named;
 use json_forms::ReadError;
 use json_forms::forms::{read_tagged, says, starts};
-use json_forms::read::{items, member, number, str, triple};
+use json_forms::read::{items, member, number, refusal, str, triple};
 use scripted_timers::{PollResult, ScriptedPoll};
-use serde_json::{Error, Map, Value};
+use serde_json::{Map, Value};
 use smithy_types::{AcceptorState, List};
 use std::alloc::Global;
 use value_json::http::read_payload;
@@ -54,17 +53,6 @@ pub fn read_script(alloc: Global, bytes: &[u8]) -> Result<WaitScript, ReadError>
     match Value::from_slice(alloc, bytes) {
         Ok(value) => script_in(alloc, &value),
         Err(error) => Err(refusal(&error)),
-    }
-}
-
-// Why a text was not read.
-fn refusal(error: &Error) -> ReadError
-    ensures { result ≡ ReadError.Refused → ¬ (IsMemory error.now) }
-{
-    if error.is_memory() {
-        ReadError::Memory
-    } else {
-        ReadError::Refused
     }
 }
 

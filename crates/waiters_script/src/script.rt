@@ -1,6 +1,5 @@
 //! Scripts of `waiters`.
 ghost use Rattle.std.specs.Prelude.{◌≡◌, true, IfOk, IsErrOf};
-ghost use Rattle.serde_json.specs.Errors.{IsMemory};
 ghost use Rattle.serde_json.specs.View.{view, items_view};
 ghost use Rattle.json_forms.specs.Lists.{list_of};
 ghost use Rattle.json_forms.specs.Reading.{Reads};
@@ -10,10 +9,10 @@ ghost use Rattle.waiters_script.specs.Script.{some_of, waiter_at, waiters_at, Is
 use crate::members::{ScriptObject, only_members};
 use crate::terms::WaitersScript;
 use json_forms::ReadError;
-use json_forms::read::{items, member, number, number_32, sextuple};
+use json_forms::read::{items, member, number, number_32, refusal, sextuple};
 use retry_quota::BucketTerms;
 use scripted_fleet::ScriptedWaiter;
-use serde_json::{Error, Value};
+use serde_json::Value;
 use smithy_types::List;
 use std::alloc::Global;
 use wait_script::{read_polls, read_words};
@@ -29,17 +28,6 @@ pub fn read_script(alloc: Global, bytes: &[u8]) -> Result<WaitersScript, ReadErr
     match Value::from_slice(alloc, bytes) {
         Ok(value) => script_in(alloc, &value),
         Err(error) => Err(refusal(&error)),
-    }
-}
-
-// Why a text was not read.
-fn refusal(error: &Error) -> ReadError
-    ensures { result ≡ ReadError.Refused → ¬ (IsMemory error.now) }
-{
-    if error.is_memory() {
-        ReadError::Memory
-    } else {
-        ReadError::Refused
     }
 }
 

@@ -3,7 +3,7 @@ use Rattle.run_grammar.specs.declared.answer.Answer.TheVariants as answers
 use Rattle.smithy_types.proofs.ChainLemmas.{chained_join}
 use Rattle.auth_parts.specs.Caching.{asking_sleep, giving_up}
 use Rattle.auth_parts.specs.Choosing.{ending_load}
-use Rattle.auth_parts.proofs.CacheCalls.{asks_sleep, waits_over}
+use Rattle.auth_parts.proofs.CacheCalls.{asks_sleep, waits_over, waits_timed}
 use Rattle.auth_parts.proofs.cached.wait.Goals as goal
 
 pub returns-in-None : goal.returns-in-None
@@ -24,6 +24,7 @@ returns-in-Some-2 g c =
       inr (record {
         waiting = c.in-Some.waiting;
         is_open = c.in-Some.is;
+        has_sleep = waits_timed g.X.Timers.relates g.X.Outside.makes g.met.X.Outside.timers_make c.in-Some.waiting.sleep _ _ asked;
         answer_is = ap answers.Failed (rw c.in-Some-2.is at c.in_ok-wait.ensures.reason);
         cell = rw c.in-Some-2.is at c.in_ok-wait.ensures.ok;
         none_open = refl;

@@ -9,7 +9,7 @@ use Rattle.client_runs.proofs.invocation.invoke.Goals as goal
 pub returns : goal.returns
 returns g c =
     let log_is = c.replace-log.ensures.value ∙ c.swap_parts-2.ensures.log in
-    let empty = c.swap_parts.ensures.log ∙ c.new.ensures in
+    let empty = c.swap_parts.ensures.log ∙ c.in_ok-empty_log.ensures in
     let begins = c.begin_invocation-2.ensures ∙ ap (λ i. begun c.args.invocation.responses i c.args.outside.now) c.in_ok-clone.ensures.cases in
     record {
       entered = c.swap_parts.new.self;

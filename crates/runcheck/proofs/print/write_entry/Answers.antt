@@ -1,7 +1,10 @@
-use Rattle.std.proofs.Common.{arith}
-use Rattle.runcheck.proofs.Depths.{entry_nests}
-use Rattle.runcheck.proofs.Readable.{readable_as}
+use Rattle.runcheck.proofs.PlainLines.{plain_written, plain_characters}
 use Rattle.runcheck.proofs.print.write_entry.Goals as goal
 
-pub returns-clause-readable : goal.returns-clause-readable
-returns-clause-readable c = readable_as _ _ 7 c.in_ok-json.ensures (entry_nests c.args.number c.args.entry.now) (omega arith) c.in_ok-write.ensures.readable
+pub returns-in_ok-write_words-in-Some-clause-text : goal.returns-in_ok-write_words-in-Some-clause-text
+returns-in_ok-write_words-in-Some-clause-text c =
+    plain_written c.args.out.now.items c.write_words.new.out.items c.args.number c.kind.result c.args.entry.now c.in-Some.word.now c.in-Some.ensures c.kind.ensures c.in_ok-write_words-in-Some.ensures.text
+
+pub returns-in_ok-write_words-in-Some-clause-characters : goal.returns-in_ok-write_words-in-Some-clause-characters
+returns-in_ok-write_words-in-Some-clause-characters c =
+    plain_characters c.args.number c.kind.result c.args.entry.now c.in-Some.word.now c.in-Some.ensures c.kind.ensures c.in_ok-write_words-in-Some.ensures.characters

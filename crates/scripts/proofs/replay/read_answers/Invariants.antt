@@ -1,9 +1,6 @@
-use Rattle.std.proofs.Common.{◌≡◌, drop}
-use Rattle.serde_json.specs.View.{items_view}
-use Rattle.json_forms.specs.Lists.{list_of}
-use Rattle.json_forms.proofs.ReadLists.{behind}
-use Rattle.scripts.specs.Replay.{script_answer_at}
+use Rattle.std.proofs.Common.{length}
+use Rattle.scripts.proofs.ScriptAnswers.{SoFar}
 use Rattle.scripts.proofs.replay.read_answers.Given as goal
 
 abbrev pub invariant-loop-value : goal.invariant-loop-value
-invariant-loop-value l = behind l.answers (list_of script_answer_at (items_view (drop l.value-index l.list))) ≡ list_of script_answer_at (items_view l.list)
+invariant-loop-value l = SoFar l.fn.list.items (length l.yielded) l.answers

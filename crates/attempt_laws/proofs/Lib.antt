@@ -1,0 +1,6 @@
+mod Numbers
+mod Once
+mod Ends
+mod Going
+mod Decided
+mod Bounded

@@ -1,0 +1,5 @@
+pub mod Picked
+pub mod Looked
+pub mod Chosen
+pub mod Applied
+pub mod Signatures

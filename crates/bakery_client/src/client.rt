@@ -1,0 +1,138 @@
+//! The client of an operation: what it is built of, and how it is invoked. X is what lies outside of
+//! it, Q the quota that retries are paid from, C a classifier of retries and I an interceptor.
+ghost use Rattle.std.specs.List.{AllByRecursion};
+ghost use Rattle.std.specs.Prelude.{◌≡◌, ◌++◌, List};
+ghost use Rattle.bakery_model.specs.Model.{error_of, is_error};
+ghost use Rattle.client_laws.specs.Attempting.{GrewAsAllowed, IsOfWholeRun};
+ghost use Rattle.client_laws.specs.Telling.{TellsBuckets};
+ghost use Rattle.components.specs.Paying.{Pays};
+ghost use Rattle.orchestrate.specs.Answered.{InputAnswered};
+ghost use Rattle.orchestrate.specs.Growth.{GrewByAtMost};
+ghost use Rattle.orchestrate.specs.Handing.{HadMemory};
+ghost use Rattle.run_grammar.specs.declared.answer.Entry.{Entry};
+
+use bakery_model::BakeryError;
+use bakery_protocol::{BakeryDeserializer, BakerySerializer};
+use client_laws::{decisions_tell_the_bucket, settings_bound_attempts};
+use components::RuntimeComponents;
+use components::laws::further_attempts_are_paid;
+use http_schemes::{BearerAuthScheme, HttpIdentityResolver};
+use operation_builder::{BuildRefusal, IdentityResolver, OperationBuilder, Scheme};
+use orchestrate::{InvokeError, Operation};
+use outside::Outside;
+use retry_parts::TakeOffer;
+use retry_policy::ClassifyRetry;
+use retry_quota::Quota;
+use smithy_types::{OutOfMemory, RetryConfig, Wire};
+use std::alloc::Global;
+
+/// The builder of an operation of the service.
+pub type BakeryBuilder<In, Out> = OperationBuilder<
+    In,
+    Out,
+    BakeryError,
+    BearerAuthScheme,
+    HttpIdentityResolver,
+    BakerySerializer,
+    BakeryDeserializer,
+>;
+
+/// The client of an operation of the service.
+pub type BakeryClient<X, Q, C, I> = RuntimeComponents<
+    X,
+    Q,
+    C,
+    I,
+    Scheme<BearerAuthScheme>,
+    IdentityResolver<HttpIdentityResolver>,
+    BakerySerializer,
+    BakeryDeserializer,
+>;
+
+/// An operation of the service.
+pub type BakeryOperation<In, Out> = Operation<In, Out, BakeryError>;
+
+/// At most three attempts, a second and two seconds apart, without a random part.
+pub fn retry() -> RetryConfig {
+    let mut retry = RetryConfig::standard();
+    retry.static_base = true;
+    retry
+}
+
+/// The builder B with a part P, or want of memory.
+pub fn added<B: Drop, P: Drop>(addition: Result<B, (B, P, OutOfMemory)>) -> Result<B, OutOfMemory> {
+    match addition {
+        Ok(builder) => Ok(builder),
+        Err(_) => Err(OutOfMemory),
+    }
+}
+
+/// Why a builder B didn't build. What came back is let go.
+pub fn refusal<B: Drop, X: Drop, Q: Drop>(back: (B, X, Q, BuildRefusal)) -> BuildRefusal {
+    back.3
+}
+
+/// The same value. What is known of it isn't handed on, which keeps the proof of a long chain of
+/// setters short.
+pub fn plain<T>(value: T) -> T {
+    value
+}
+
+/// Invokes an operation of the service. At most `fuel` questions are asked. An output or an
+/// `SdkError` is the outcome of one whole run; each further attempt of it began only where fewer
+/// were made than the settings allow, and the bucket granted its cost, so there are at most so many
+/// attempts. The last decision's note tells what the bucket holds afterwards.
+pub fn invoke<
+    X: Outside + Drop,
+    Q: Quota + Drop,
+    C: ClassifyRetry,
+    I: TakeOffer,
+    In: Wire + Drop,
+    Out: Wire + Drop,
+>(
+    alloc: Global,
+    operation: &BakeryOperation<In, Out>,
+    client: &mut BakeryClient<X, Q, C, I>,
+    input: In,
+    fuel: u64,
+) -> Result<Out, InvokeError<BakeryError>>
+    ensures at_most_fuel { GrewByAtMost fuel client.old.log client.new.log }
+    ensures whole_run { InputAnswered In.accepts In.reads_as Out.accepts Out.reads_as is_error
+        (λ p error. error ≡ error_of p.bytes) input fuel result client.old.log client.new.log }
+    ensures paid { HadMemory result → (l : List Entry) × (client.new.log ≡ client.old.log ++ l)
+        × AllByRecursion (λ e. Pays e.question e.answer) l }
+    ensures attempts { IsOfWholeRun result → GrewAsAllowed client.old.log client.new.log }
+    ensures bucket { HadMemory result → (l : List Entry) × (client.new.log ≡ client.old.log ++ l)
+        × TellsBuckets (Q.meaning client.new.parts.quota) l }
+{
+    settings_bound_attempts();
+    further_attempts_are_paid::<
+        X,
+        Q,
+        C,
+        I,
+        Scheme<BearerAuthScheme>,
+        IdentityResolver<HttpIdentityResolver>,
+        BakerySerializer,
+        BakeryDeserializer,
+    >();
+    decisions_tell_the_bucket::<
+        X,
+        Q,
+        C,
+        I,
+        Scheme<BearerAuthScheme>,
+        IdentityResolver<HttpIdentityResolver>,
+        BakerySerializer,
+        BakeryDeserializer,
+    >();
+    operation.invoke(alloc, client, input, fuel)
+}
+
+/// Takes outside and quota out of a client, for that of another operation.
+pub fn taken_apart<X: Outside + Drop, Q: Quota + Drop, C: ClassifyRetry, I: TakeOffer>(
+    client: BakeryClient<X, Q, C, I>,
+) -> (X, Q) {
+    let parts = client.parts;
+    (parts.outside, parts.quota)
+}

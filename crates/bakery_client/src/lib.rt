@@ -1,0 +1,13 @@
+//! A bakery's client, as its user writes it: what an operation is built of, how it is invoked, and
+//! how an order is waited for.
+#![tactic(auto)]
+
+mod client;
+mod signing;
+mod watching;
+
+pub use client::{
+    BakeryBuilder, BakeryClient, BakeryOperation, added, invoke, plain, refusal, retry, taken_apart,
+};
+pub use signing::{Signing, bearer_id, signing_by};
+pub use watching::{Ending, GetOrder, SECOND, Watch, wait};

@@ -1,0 +1,3 @@
+pub mod Sleeping
+pub mod Answered
+pub mod Served

@@ -1,0 +1,11 @@
+-- What each part of a script's client answers follows from what it is and what it is handed.
+use Rattle.client_runs.specs.Means.{client_means}
+use Rattle.retry_parts.specs.Meanings.{InterceptorMeans}
+use Rattle.smithy_context.specs.declared.context.InterceptorContext.{InterceptorContext}
+use Rattle.smithy_types.specs.declared.notes.RetryAction.{RetryAction}
+use Rattle.client_determined.specs.Answering.{ArePlain}
+use Rattle.retry_determined.specs.Kinds.{RunsAlike}
+
+-- where its interceptors are so
+abbrev pub ClientsArePlain : {C I : Type 0} → (C → InterceptorContext → RetryAction → RetryAction) → InterceptorMeans I → Type 0
+ClientsArePlain says chain = RunsAlike chain.runs → ArePlain (client_means says chain)

@@ -1,0 +1,87 @@
+-- A script of `fleet` has no float.
+use Rattle.std.proofs.Common.{[], ◌∷◌, codes, refl}
+use Rattle.serde_json.specs.Data.{null, boolean, number, string, array, object, Members}
+use Rattle.serde_json.specs.Find.{as_array, get_member}
+use Rattle.json_forms.specs.Lists.{list_of}
+use Rattle.json_forms.specs.Plain.{number_at}
+use Rattle.json_forms.specs.Reading.{◌>>=◌}
+use Rattle.value_json.proofs.SpelledForms.{Holds, step, weaker}
+use Rattle.outside_scripts.specs.Words.{words_at}
+use Rattle.client_scripts.specs.Buckets.{bucket_terms_at}
+use Rattle.client_scripts.specs.Clients.{client_at}
+use Rattle.client_scripts.specs.Invocations.{run_at}
+use Rattle.client_scripts.specs.Members.{members_at}
+use Rattle.fleet_script.specs.Callers.{caller_at, caller_run_at, caller_runs_at, callers_at, some_of}
+use Rattle.fleet_script.specs.Script.{fleet_script_at}
+use Rattle.script_laws.specs.Floats.{FloatsSpellNothing}
+use Rattle.script_laws.proofs.PlainForms.{Plain, Refuses, kept, number_plain, rows_plain}
+use Rattle.script_laws.proofs.PlainMembers.{spells_nothing}
+use Rattle.client_script_laws.proofs.Clients.{bucket_plain, client_plain, counted, run_found, run_names}
+use Rattle.client_script_laws.proofs.Counted.{all_counted, member_found}
+use Rattle.client_script_laws.proofs.Outsides.{words_plain}
+
+-- ---- callers
+
+run_object : (ms : Members) → Holds (λ _. Plain (object ms)) (caller_run_at (object ms))
+unfolding caller_run_at
+run_object ms =
+    step _ _ (members_at 4 (object ms)) _ (counted 4 ms) (λ _ count.
+    weaker _ _ (run_at 0 (object ms)) (run_found 0 ms) (λ _ run. all_counted run_names ms refl run count))
+
+run_plain : Refuses caller_run_at
+unfolding caller_run_at members_at Holds
+run_plain null = tt
+run_plain (boolean b) = tt
+run_plain (number n) = tt
+run_plain (string s) = tt
+run_plain (array ds) = tt
+run_plain (object ms) = run_object ms
+
+runs_plain : Refuses caller_runs_at
+unfolding caller_runs_at
+runs_plain d = rows_plain caller_run_at run_plain d
+
+caller_object : (ms : Members) → Holds (λ _. Plain (object ms)) (caller_at (object ms))
+unfolding caller_at Holds
+caller_object ms =
+    step _ _ (members_at 2 (object ms)) _ (counted 2 ms) (λ _ count.
+    step _ _ (get_member (codes "invocations") ms >>= caller_runs_at) _ (member_found caller_runs_at runs_plain (codes "invocations") ms) (λ _ i.
+    step _ _ (get_member (codes "client") ms >>= client_at 1) _ (member_found (client_at 1) (client_plain 1) (codes "client") ms) (λ _ c.
+    all_counted (codes "invocations" ∷ codes "client" ∷ []) ms refl (i, (c, tt)) count)))
+
+caller_plain : Refuses caller_at
+unfolding caller_at members_at Holds
+caller_plain null = tt
+caller_plain (boolean b) = tt
+caller_plain (number n) = tt
+caller_plain (string s) = tt
+caller_plain (array ds) = tt
+caller_plain (object ms) = caller_object ms
+
+callers_plain : Refuses callers_at
+unfolding callers_at
+callers_plain d = kept (Plain d) (as_array d >>= list_of caller_at) some_of (rows_plain caller_at caller_plain d)
+
+-- ---- the whole script
+
+object_plain : (ms : Members) → Holds (λ _. Plain (object ms)) (fleet_script_at (object ms))
+unfolding fleet_script_at Holds
+object_plain ms =
+    step _ _ (members_at 4 (object ms)) _ (counted 4 ms) (λ _ count.
+    step _ _ (get_member (codes "bucket") ms >>= bucket_terms_at) _ (member_found bucket_terms_at bucket_plain (codes "bucket") ms) (λ _ b.
+    step _ _ (get_member (codes "start") ms >>= number_at) _ (member_found number_at number_plain (codes "start") ms) (λ _ s.
+    step _ _ (get_member (codes "words") ms >>= words_at) _ (member_found words_at words_plain (codes "words") ms) (λ _ w.
+    step _ _ (get_member (codes "callers") ms >>= callers_at) _ (member_found callers_at callers_plain (codes "callers") ms) (λ _ c.
+    all_counted (codes "bucket" ∷ codes "start" ∷ codes "words" ∷ codes "callers" ∷ []) ms refl (b, (s, (w, (c, tt)))) count)))))
+
+script_plain : Refuses fleet_script_at
+unfolding fleet_script_at members_at Holds
+script_plain null = tt
+script_plain (boolean b) = tt
+script_plain (number n) = tt
+script_plain (string s) = tt
+script_plain (array ds) = tt
+script_plain (object ms) = object_plain ms
+
+pub fleet_scripts_plain : FloatsSpellNothing fleet_script_at
+fleet_scripts_plain text d e h = spells_nothing d (fleet_script_at d) (script_plain d) h

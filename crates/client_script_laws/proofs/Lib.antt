@@ -1,0 +1,5 @@
+pub mod Counted
+pub mod Outsides
+pub mod Clients
+pub mod ClientScripts
+pub mod FleetScripts

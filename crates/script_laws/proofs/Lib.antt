@@ -1,0 +1,9 @@
+pub mod Ordered
+pub mod PlainForms
+pub mod PlainMembers
+pub mod PlainValues
+pub mod PlainSettings
+pub mod PlainAnswers
+pub mod ReplayScripts
+pub mod WaitScripts
+pub mod WaitersScripts

@@ -1,0 +1,5 @@
+pub mod Digits
+pub mod Shown
+pub mod Lengths
+pub mod Invocations
+pub mod Scripts
