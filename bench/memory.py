@@ -1,9 +1,11 @@
 #!/usr/bin/env python3
 """Refuses each request for memory of a run in turn, one a run, for an example of each command. Each
 such run must end with status 5 and nothing written, or with the status and the text that the run has
-with ample memory. Prints a line for each example: the requests, and how many runs ended so and so.
+with ample memory. So it does for the program of rows of kept identities, each of whose runs must end
+as with ample memory, or with a failure behind a front of its print. Prints a line for each example:
+the requests, and how many runs ended so and so.
 
-It wants the proved program (./smithy_replay --prove) and gcc.
+It wants the proved programs (./smithy_replay --prove; rt run in crates/identity_cell_rows) and gcc.
 """
 import pathlib
 import subprocess
@@ -12,6 +14,7 @@ import tempfile
 
 TOP = pathlib.Path(__file__).resolve().parent.parent
 PROGRAM = TOP / "crates/smithy_replay/out/smithy_replay"
+ROWS = TOP / "crates/identity_cell_rows/out/identity_cell_rows"
 NO_MEMORY = 5
 EXAMPLES = [
     (["replay"], "examples/teapot.json"),
@@ -34,10 +37,10 @@ class Refusing:
         command = ["gcc", "-O2", "-shared", "-fPIC", "-o", self.library, TOP / "bench/refuse.c"]
         subprocess.run(command, check=True)
 
-    def run(self, words, text, number):
+    def run(self, command, text, number):
         """The status and what was written, where the request of this number is refused; 0 is none."""
         preload = {"LD_PRELOAD": str(self.library), "REFUSED_REQUEST": str(number), "REQUESTS_FILE": str(self.count)}
-        ran = subprocess.run([PROGRAM, *words], input=text, capture_output=True, env=preload)
+        ran = subprocess.run(command, input=text, capture_output=True, env=preload)
         return ran.returncode, ran.stdout
 
     def requests(self):
@@ -45,30 +48,47 @@ class Refusing:
         return int(self.count.read_text())
 
 
-def tried(refusing, words, script):
+def without_memory(ended, whole):
+    """Whether a run of the program ended for want of memory."""
+    return ended == (NO_MEMORY, b"")
+
+
+def stopped_short(ended, whole):
+    """Whether a run of the program of rows failed behind a front of its print."""
+    return ended[0] > 0 and whole[1].startswith(ended[1])
+
+
+def tried(refusing, command, text, is_refused):
     """Refuses each request of one example. Says whether every run ended as it must."""
-    text = (TOP / script).read_bytes() if script else b""
-    whole = refusing.run(words, text, 0)
+    whole = refusing.run(command, text, 0)
     requests = refusing.requests()
     without, same, bad = 0, 0, []
     for number in range(1, requests + 1):
-        ended = refusing.run(words, text, number)
-        if ended == (NO_MEMORY, b""):
-            without += 1
-        elif ended == whole:
+        ended = refusing.run(command, text, number)
+        if ended == whole:
             same += 1
+        elif is_refused(ended, whole):
+            without += 1
         else:
             bad.append((number, ended[0], len(ended[1])))
-    print(f"{' '.join(words)}: {requests} requests, {without} end with status 5, {same} with the run's own result, {len(bad)} otherwise {bad[:5]}")
+    name = " ".join([command[0].name, *command[1:]])
+    print(f"{name}: {requests} requests, {without} end for want of memory, {same} with the run's own result, {len(bad)} otherwise {bad[:5]}")
     return not bad
 
 
 def main():
     if not PROGRAM.exists():
         sys.exit("memory: the program isn't built; ./smithy_replay --prove builds it")
+    if not ROWS.exists():
+        sys.exit("memory: the program of rows isn't built; rt run in its folder builds it")
     with tempfile.TemporaryDirectory() as room:
         refusing = Refusing(room)
-        return not all([tried(refusing, words, script) for words, script in EXAMPLES])
+        ends = []
+        for words, script in EXAMPLES:
+            text = (TOP / script).read_bytes() if script else b""
+            ends.append(tried(refusing, [PROGRAM, *words], text, without_memory))
+        ends.append(tried(refusing, [ROWS], b"", stopped_short))
+        return not all(ends)
 
 
 sys.exit(main())

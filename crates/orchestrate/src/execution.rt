@@ -11,9 +11,11 @@ use run_grammar::{Standing, StopPoint};
 use smithy_context::InterceptorContext;
 use smithy_types::{OutOfMemory, Payload, SdkError};
 use std::alloc::Global;
+use std::error::Error;
+use std::fmt;
 
 /// Why an operation has no output.
-#[derive(Drop)]
+#[derive(Debug, Drop)]
 pub enum InvokeError<E> {
     /// The run is whole, and a failure stands at its end.
     Sdk(SdkError<E>),
@@ -24,6 +26,20 @@ pub enum InvokeError<E> {
     /// An allocation was refused. The run's finalizers may not have run.
     OutOfMemory,
 }
+
+/// A failure has the text of its `SdkError`.
+impl<E> fmt::Display for InvokeError<E> {
+    fn fmt<W: fmt::Write>(&self, f: &mut fmt::Formatter<W>) -> fmt::Result {
+        match self {
+            InvokeError::Sdk(error) => fmt::Display::fmt(error, f),
+            InvokeError::Unfinished => f.write_str("the fuel is spent before the run's end"),
+            InvokeError::WrongType(_) => f.write_str("the answer is of another type"),
+            InvokeError::OutOfMemory => fmt::Display::fmt(&OutOfMemory, f),
+        }
+    }
+}
+
+impl<E: fmt::Debug + Drop> Error for InvokeError<E> {}
 
 impl<E> From<OutOfMemory> for InvokeError<E> {
     ghost use Rattle.std.specs.Prelude.{◌≡◌};
@@ -104,6 +120,3 @@ fn run<W: World>(
         Some(_) => Ok(None),
     }
 }
-
-#[cfg(test)]
-mod tests;

@@ -1,34 +1,37 @@
 //! A client of a bakery, as its user writes it: an order is placed, which takes three attempts, and
-//! then a waiter asks for it until it is ready.
+//! then a waiter asks for it until it is ready. The service stands in memory, at the end.
 #![tactic(auto)]
 
-mod bakery;
-mod causes;
-mod fetching;
-mod ordering;
-
-use anyhow::Result;
+use anyhow::{Result, bail};
 use bakery_client::{
-    BakeryBuilder, BakeryClient, added, bearer_id, plain, refusal, retry, signing_by, taken_apart,
+    BakeryBuilder, BakeryClient, BakeryOperation, Ending, GetOrder, SECOND, Watch, added,
+    bearer_id, invoke, plain, refusal, retry, signing_by, taken_apart, wait,
 };
 use bakery_model::{
-    GET_ORDER_OUTPUT, GetOrderInput, GetOrderOutput, PLACE_ORDER_OUTPUT, PlaceOrderInput,
-    PlaceOrderOutput,
+    BakeryError, ERROR, GET_ORDER_OUTPUT, GetOrderInput, GetOrderOutput, PLACE_ORDER_OUTPUT,
+    PlaceOrderInput, PlaceOrderOutput,
 };
 use bakery_protocol::{
     BakeryDeserializer, BakerySerializer, ClientNameInterceptor, TooEarlyClassifier,
 };
-use fetching::fetch;
 use http_schemes::BearerAuthScheme;
 use operation_builder::OperationBuilder;
-use ordering::{PlaceOrder, order};
+use orchestrate::InvokeError;
 use outside::Outside;
 use rate_limit::ClientRateLimiter;
 use retry_parts::TakeOffer;
 use retry_policy::{Classifier, ClassifyRetry, ModeledAsRetryableClassifier};
 use retry_quota::{Quota, Registry};
-use scripted::ScriptedOutside;
-use smithy_types::{Text, TimeoutConfig};
+use run_grammar::Entry;
+use runcheck::print::print_run;
+use runcheck::{Ending as RunEnding, RunHead};
+use scripted::{Frame, RecordAnswer, ResponseRecord, ScriptedOutside, ScriptedResponse};
+use smithy_types::{
+    Blob, Headers, List, OutOfMemory, SdkError, Shared, StopPoint, Text, TimeoutConfig, Timers,
+    Wire,
+};
+use std::alloc::Global;
+use waiters::WaiterError;
 
 /// The service's name, by which its retries share a bucket.
 const SERVICE: &str = "Bakery";
@@ -39,8 +42,31 @@ const URL: &str = "http://localhost:1234";
 /// The token that requests are signed by.
 const TOKEN: &str = "flour";
 
+/// The most questions that the invocation asks.
+const FUEL: u64 = 200;
+
+/// The most polls and asked sleeps of the waiter.
+const WAIT_FUEL: u64 = 100;
+
+/// The operation `PlaceOrder`.
+type PlaceOrder = BakeryOperation<PlaceOrderInput, PlaceOrderOutput>;
+
+/// A status and a body.
+type Row = (u16, &'static str);
+
+/// It is too early, the oven is busy, and then the order is taken; at the third question it is
+/// baked.
+const ANSWERS: &[Row] = &[
+    (425, ""),
+    (429, "OvenBusy"),
+    (200, "order-7"),
+    (200, "baking"),
+    (200, "baking"),
+    (200, "ready"),
+];
+
 fn main(rt: HostRuntime) -> Result<()> {
-    let outside = bakery::service(rt.alloc())?;
+    let outside = service(rt.alloc())?;
     let buckets: Registry<ClientRateLimiter> = Registry::new(rt.alloc())?;
     let (order, outside, buckets) = place_order(&rt, outside, buckets)?;
     get_order(&rt, order, outside, buckets)
@@ -134,4 +160,187 @@ fn get_order<Q: Quota + Drop>(
         Ok((operation, client)) => fetch(rt, operation, client, order),
         Err(back) => Err(refusal(back).into()),
     }
+}
+
+// Orders a loaf, prints the invocation's log and what the bucket holds, and answers the order's
+// id.
+fn order<X: Outside + Drop, Q: Quota + Drop, C: ClassifyRetry, I: TakeOffer>(
+    rt: &HostRuntime,
+    operation: &PlaceOrder,
+    client: &mut BakeryClient<X, Q, C, I>,
+) -> Result<Text> {
+    let output = placed(rt.alloc(), operation, client)?;
+    print_log(rt, client.entries().as_slice(), &output)?;
+    println!(rt; "Ordered: {}", output.order)?;
+    print_bucket(rt, &client.parts.quota)?;
+    Ok(output.order)
+}
+
+// Invokes the operation once.
+fn placed<X: Outside + Drop, Q: Quota + Drop, C: ClassifyRetry, I: TakeOffer>(
+    alloc: Global,
+    operation: &PlaceOrder,
+    client: &mut BakeryClient<X, Q, C, I>,
+) -> Result<PlaceOrderOutput> {
+    match invoke(alloc, operation, client, input(), FUEL) {
+        Ok(output) => Ok(output),
+        Err(error) => bail!("{}", cause(&error)),
+    }
+}
+
+// What is ordered.
+fn input() -> PlaceOrderInput {
+    PlaceOrderInput {
+        loaf: Text::from_static("rye"),
+    }
+}
+
+// What the bucket of the service's partition holds.
+fn print_bucket<Q: Quota>(rt: &HostRuntime, quota: &Q) -> Result<()> {
+    if !quota.has(0) {
+        return Ok(());
+    }
+    if let Some(sums) = quota.sums(0) {
+        let capacity = sums.capacity;
+        println!(rt; "The bucket has {} of {capacity} tokens.", sums.available)?;
+    }
+    Ok(())
+}
+
+// Prints the log as the command `replay` does.
+fn print_log(rt: &HostRuntime, entries: &[Entry], output: &PlaceOrderOutput) -> Result<()> {
+    let text = String::from_utf8(log_bytes(rt.alloc(), entries, output)?)?;
+    print!(rt; "{text}")?;
+    Ok(())
+}
+
+// The bytes of that print.
+fn log_bytes(
+    alloc: Global,
+    entries: &[Entry],
+    output: &PlaceOrderOutput,
+) -> Result<Vec<u8>, OutOfMemory> {
+    let head = head(alloc)?;
+    let ending = RunEnding::Output(output.to_payload(alloc)?);
+    print_run(alloc, &head, entries, &ending)
+}
+
+// What the invocation is begun with, as its print tells it.
+fn head(alloc: Global) -> Result<RunHead, OutOfMemory> {
+    Ok(RunHead {
+        input: input().to_payload(alloc)?,
+        fuel: FUEL,
+        stop: StopPoint::None,
+        output_kind: PLACE_ORDER_OUTPUT as u64,
+        error_kind: ERROR as u64,
+    })
+}
+
+// Waits for the order, and tells how that ended.
+fn fetch<Q: Quota + Drop, C: ClassifyRetry, I: TakeOffer>(
+    rt: &HostRuntime,
+    operation: GetOrder,
+    client: BakeryClient<ScriptedOutside, Q, C, I>,
+    order: Text,
+) -> Result<()> {
+    let mut watch = Watch::new(rt.alloc(), operation, client, order);
+    let ending = wait(&mut watch, WAIT_FUEL);
+    let seconds = watch.now() / SECOND;
+    tell(rt, watch.order.as_str(), watch.polls, seconds, &ending)
+}
+
+// Tells how the wait ended.
+fn tell(rt: &HostRuntime, order: &str, polls: u32, seconds: u64, ending: &Ending) -> Result<()> {
+    match ending {
+        Ok(_) => tell_ready(rt, order, polls, seconds),
+        Err(error) => tell_refused(rt, order, polls, reason(error)),
+    }
+}
+
+// Tells of an order that is ready.
+fn tell_ready(rt: &HostRuntime, order: &str, polls: u32, seconds: u64) -> Result<()> {
+    println!(rt; "{order} is ready after {polls} polls, {seconds} s after the start.")?;
+    Ok(())
+}
+
+// Tells of an order that isn't.
+fn tell_refused(rt: &HostRuntime, order: &str, polls: u32, reason: &str) -> Result<()> {
+    println!(rt; "{order} isn't ready after {polls} polls: {reason}")?;
+    Ok(())
+}
+
+// Why an invocation has no output.
+fn cause(error: &InvokeError<BakeryError>) -> &'static str {
+    match error {
+        InvokeError::Sdk(error) => failure(error),
+        InvokeError::Unfinished => "the fuel is used up",
+        InvokeError::WrongType(_) => "the answer is of another kind",
+        InvokeError::OutOfMemory => "there is no memory",
+    }
+}
+
+// Why a wait has no order.
+fn reason(error: &WaiterError<GetOrderOutput, BakeryError>) -> &'static str {
+    match error {
+        WaiterError::OperationFailed(error) => failure(error),
+        WaiterError::FailureState(_) => "the bakery refuses it",
+        WaiterError::ExceededMaxWait { .. } => "the longest wait is over",
+        WaiterError::Unfinished => "the fuel is used up",
+        WaiterError::OutOfMemory => "there is no memory",
+    }
+}
+
+// Why an operation failed.
+fn failure(error: &SdkError<BakeryError>) -> &'static str {
+    match error {
+        SdkError::ConstructionFailure(_) => "the request can't be built",
+        SdkError::TimeoutError(_) => "a deadline is over",
+        SdkError::DispatchFailure(_) => "no response came",
+        SdkError::ResponseError(_, _) => "the response can't be read",
+        SdkError::ServiceError(error, _) => service_error(*error),
+    }
+}
+
+// What the bakery says.
+fn service_error(error: BakeryError) -> &'static str {
+    match error {
+        BakeryError::OvenBusy => "the oven is busy",
+        BakeryError::NoSuchOrder => "there is no such order",
+    }
+}
+
+// The service in memory, with its clock at 0.
+fn service(alloc: Global) -> Result<ScriptedOutside, OutOfMemory> {
+    let records = records_of(alloc, ANSWERS)?;
+    let nobody = Shared::new(alloc, List::new())?;
+    let mut outside = ScriptedOutside::new(alloc, 0, List::new());
+    outside.begin_invocation(alloc, records, nobody);
+    Ok(outside)
+}
+
+// The responses of these rows.
+fn records_of(alloc: Global, rows: &[Row]) -> Result<List<ResponseRecord>, OutOfMemory> {
+    let mut records = List::new();
+    for row in rows {
+        records.push(alloc, record_of(alloc, *row)?)?;
+    }
+    Ok(records)
+}
+
+// A response that comes at once, its body in one frame.
+fn record_of(alloc: Global, (status, body): Row) -> Result<ResponseRecord, OutOfMemory> {
+    let mut frames = List::new();
+    let bytes = Blob::from_slice(alloc, body.as_bytes())?;
+    frames.push(alloc, Frame { delay: 0, bytes })?;
+    let response = ScriptedResponse {
+        status,
+        headers: Headers::new(),
+        frames,
+        repeat: false,
+        clock: None,
+    };
+    Ok(ResponseRecord {
+        delay: 0,
+        answer: RecordAnswer::Response(response),
+    })
 }

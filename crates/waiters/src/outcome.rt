@@ -1,6 +1,8 @@
 //! What a waiter ends with.
 
-use smithy_types::SdkError;
+use smithy_types::{OutOfMemory, SdkError};
+use std::error::Error;
+use std::fmt;
 
 /// The poll that ended a waiter: an output, or an error of the operation's model.
 #[derive(Debug, Drop)]
@@ -30,3 +32,18 @@ pub enum WaiterError<O, E> {
     /// An allocation was refused.
     OutOfMemory,
 }
+
+/// A poll that failed has the text of its `SdkError`.
+impl<O, E> fmt::Display for WaiterError<O, E> {
+    fn fmt<W: fmt::Write>(&self, f: &mut fmt::Formatter<W>) -> fmt::Result {
+        match self {
+            WaiterError::OperationFailed(error) => fmt::Display::fmt(error, f),
+            WaiterError::FailureState(_) => f.write_str("the resource is in a failure state"),
+            WaiterError::ExceededMaxWait { .. } => f.write_str("the longest wait is over"),
+            WaiterError::Unfinished => f.write_str("the fuel is spent before the wait's end"),
+            WaiterError::OutOfMemory => fmt::Display::fmt(&OutOfMemory, f),
+        }
+    }
+}
+
+impl<O: fmt::Debug + Drop, E: fmt::Debug + Drop> Error for WaiterError<O, E> {}

@@ -1,0 +1,8 @@
+pub mod Prioritized
+pub mod Resting
+pub mod Endings
+pub mod Invoked
+pub mod Ran
+pub mod Opened
+pub mod Told
+pub mod Said

@@ -1,0 +1,232 @@
+//! The payloads that the model's values are: a kind each, and the bytes of a body.
+ghost use Rattle.std.specs.Prelude.{◌≡◌, true, false, IfOk, MatchOption};
+ghost use Rattle.std.specs.Str.{is_utf8};
+ghost use Rattle.forecast_service.specs.Model.{
+  error_name,
+  error_of,
+  is_error,
+  is_sky,
+  is_text,
+  kind_of_error,
+  sky_name,
+  sky_of,
+};
+
+use crate::model::{ForecastError, GetForecastInput, GetForecastOutput, Sky};
+use smithy_types::{Blob, ErrorKind, OutOfMemory, Payload, ProvideErrorKind, Text, Wire};
+use std::alloc::Global;
+
+/// The kind of an input.
+pub const GET_FORECAST_INPUT: u32 = 1;
+
+/// The kind of an output.
+pub const GET_FORECAST_OUTPUT: u32 = 2;
+
+/// The kind of an error.
+pub const ERROR: u32 = 3;
+
+// The payload of this kind that a text is.
+fn text_payload(alloc: Global, kind: u32, text: &Text) -> Result<Payload, OutOfMemory>
+    ensures value { IfOk result (λ p. p ≡ record { kind = kind; bytes = text.now }) }
+    ensures accepted { IfOk result (λ p. is_text kind p ≡ true) }
+{
+    let bytes = text.as_str().as_bytes();
+    Ok(Payload {
+        kind,
+        bytes: Blob::from_slice(alloc, bytes)?,
+    })
+}
+
+// The text that a payload of this kind is.
+fn read_text(alloc: Global, kind: u32, payload: &Payload) -> Result<Option<Text>, OutOfMemory>
+    ensures { IfOk result (λ found. MatchOption found
+        (is_text kind payload.now ≡ false)
+        (λ text. (is_text kind payload.now ≡ true) × (text ≡ payload.now.bytes))) }
+{
+    if payload.kind != kind {
+        return Ok(None);
+    }
+    let text = read_utf8(alloc, payload.bytes.as_slice())?;
+    Ok(text)
+}
+
+// The text that these bytes are.
+fn read_utf8(alloc: Global, bytes: &[u8]) -> Result<Option<Text>, OutOfMemory>
+    ensures { IfOk result (λ found. MatchOption found
+        (is_utf8 bytes.now ≡ false)
+        (λ text. (is_utf8 bytes.now ≡ true) × (text ≡ bytes.now))) }
+{
+    match str::from_utf8(bytes) {
+        Ok(text) => Ok(Some(Text::from_str(alloc, text)?)),
+        Err(_) => Ok(None),
+    }
+}
+
+impl Wire for GetForecastInput {
+    ghost use Rattle.std.specs.Prelude.{◌≡◌};
+    ghost use Rattle.std.proofs.Common.{◌∙◌, sym};
+    ghost use Rattle.forecast_service.specs.Model.{is_text};
+
+    ghost accepts = { is_text 1 };
+
+    ghost reads_as = { λ p input. input ≡ record { station = p.bytes } };
+
+    ghost one_value = { λ p x y h g. h ∙ sym g };
+
+    fn to_payload(&self, alloc: Global) -> Result<Payload, OutOfMemory> {
+        text_payload(alloc, GET_FORECAST_INPUT, &self.station)
+    }
+
+    fn from_payload(
+        alloc: Global,
+        payload: &Payload,
+    ) -> Result<Option<GetForecastInput>, OutOfMemory> {
+        match read_text(alloc, GET_FORECAST_INPUT, payload)? {
+            Some(station) => Ok(Some(GetForecastInput { station })),
+            None => Ok(None),
+        }
+    }
+}
+
+impl Wire for GetForecastOutput {
+    ghost use Rattle.std.specs.Prelude.{◌≡◌};
+    ghost use Rattle.std.proofs.Common.{◌∙◌, sym};
+    ghost use Rattle.forecast_service.specs.Model.{is_sky, sky_of};
+
+    ghost accepts = { is_sky };
+
+    ghost reads_as = { λ p output. output ≡ record { sky = sky_of p.bytes } };
+
+    ghost one_value = { λ p x y h g. h ∙ sym g };
+
+    fn to_payload(&self, alloc: Global) -> Result<Payload, OutOfMemory> {
+        Ok(Payload {
+            kind: GET_FORECAST_OUTPUT,
+            bytes: Blob::from_slice(alloc, sky_name(self.sky))?,
+        })
+    }
+
+    fn from_payload(
+        _alloc: Global,
+        payload: &Payload,
+    ) -> Result<Option<GetForecastOutput>, OutOfMemory> {
+        match read_sky(payload) {
+            Some(sky) => Ok(Some(GetForecastOutput { sky })),
+            None => Ok(None),
+        }
+    }
+}
+
+// How a sky is spelled.
+fn sky_name(sky: Sky) -> &'static [u8]
+    ensures { result.now ≡ sky_name sky }
+{
+    match sky {
+        Sky::Clear => b"clear",
+        Sky::Rain => b"rain",
+        Sky::Snow => b"snow",
+    }
+}
+
+// The sky that a payload is.
+fn read_sky(payload: &Payload) -> Option<Sky>
+    ensures { MatchOption result
+        (is_sky payload.now ≡ false)
+        (λ sky. (is_sky payload.now ≡ true) × (sky ≡ sky_of payload.now.bytes)) }
+{
+    let bytes = payload.bytes.as_slice();
+    if payload.kind != GET_FORECAST_OUTPUT {
+        None
+    } else if bytes == b"clear".as_slice() {
+        Some(Sky::Clear)
+    } else if bytes == b"rain".as_slice() {
+        Some(Sky::Rain)
+    } else if bytes == b"snow".as_slice() {
+        Some(Sky::Snow)
+    } else {
+        None
+    }
+}
+
+impl Wire for ForecastError {
+    ghost use Rattle.std.specs.Prelude.{◌≡◌};
+    ghost use Rattle.std.proofs.Common.{◌∙◌, sym};
+    ghost use Rattle.forecast_service.specs.Model.{is_error, error_of};
+
+    ghost accepts = { is_error };
+
+    ghost reads_as = { λ p error. error ≡ error_of p.bytes };
+
+    ghost one_value = { λ p x y h g. h ∙ sym g };
+
+    fn to_payload(&self, alloc: Global) -> Result<Payload, OutOfMemory> {
+        Ok(Payload {
+            kind: ERROR,
+            bytes: Blob::from_slice(alloc, error_name(*self))?,
+        })
+    }
+
+    fn from_payload(
+        _alloc: Global,
+        payload: &Payload,
+    ) -> Result<Option<ForecastError>, OutOfMemory> {
+        Ok(read_error(payload))
+    }
+}
+
+impl ProvideErrorKind for ForecastError {
+    ghost use Rattle.forecast_service.specs.Model.{kind_of_error, kind_in};
+
+    ghost kind = { kind_of_error };
+
+    ghost kind_in = { kind_in };
+
+    fn retryable_error_kind(&self) -> Option<ErrorKind> {
+        kind_of_error(*self)
+    }
+
+    fn kind_of(payload: &Payload) -> Option<ErrorKind> {
+        match read_error(payload) {
+            Some(error) => kind_of_error(error),
+            None => None,
+        }
+    }
+}
+
+// How an error is spelled.
+fn error_name(error: ForecastError) -> &'static [u8]
+    ensures { result.now ≡ error_name error }
+{
+    match error {
+        ForecastError::StationAsleep => b"StationAsleep",
+        ForecastError::NoSuchStation => b"NoSuchStation",
+    }
+}
+
+// The error that a payload is.
+fn read_error(payload: &Payload) -> Option<ForecastError>
+    ensures { MatchOption result
+        (is_error payload.now ≡ false)
+        (λ error. (is_error payload.now ≡ true) × (error ≡ error_of payload.now.bytes)) }
+{
+    let bytes = payload.bytes.as_slice();
+    if payload.kind != ERROR {
+        None
+    } else if bytes == b"StationAsleep".as_slice() {
+        Some(ForecastError::StationAsleep)
+    } else if bytes == b"NoSuchStation".as_slice() {
+        Some(ForecastError::NoSuchStation)
+    } else {
+        None
+    }
+}
+
+// A station that sleeps is the server's fault, and one that isn't there tells nothing of a retry.
+fn kind_of_error(error: ForecastError) -> Option<ErrorKind>
+    ensures { result ≡ kind_of_error error }
+{
+    match error {
+        ForecastError::StationAsleep => Some(ErrorKind::ServerError),
+        ForecastError::NoSuchStation => None,
+    }
+}
