@@ -17,13 +17,13 @@ use client_laws::{decisions_tell_the_bucket, settings_bound_attempts};
 use components::RuntimeComponents;
 use components::laws::further_attempts_are_paid;
 use http_schemes::{BearerAuthScheme, HttpIdentityResolver};
-use operation_builder::{BuildRefusal, IdentityResolver, OperationBuilder, Scheme};
+use operation_builder::{IdentityResolver, OperationBuilder, Scheme};
 use orchestrate::{InvokeError, Operation};
 use outside::Outside;
 use retry_parts::TakeOffer;
 use retry_policy::ClassifyRetry;
 use retry_quota::Quota;
-use smithy_types::{OutOfMemory, RetryConfig, Wire};
+use smithy_types::{RetryConfig, Wire};
 use std::alloc::Global;
 
 /// The builder of an operation of the service.
@@ -57,25 +57,6 @@ pub fn retry() -> RetryConfig {
     let mut retry = RetryConfig::standard();
     retry.static_base = true;
     retry
-}
-
-/// The builder B with a part P, or want of memory.
-pub fn added<B: Drop, P: Drop>(addition: Result<B, (B, P, OutOfMemory)>) -> Result<B, OutOfMemory> {
-    match addition {
-        Ok(builder) => Ok(builder),
-        Err(_) => Err(OutOfMemory),
-    }
-}
-
-/// Why a builder B didn't build. What came back is let go.
-pub fn refusal<B: Drop, X: Drop, Q: Drop>(back: (B, X, Q, BuildRefusal)) -> BuildRefusal {
-    back.3
-}
-
-/// The same value. What is known of it isn't handed on, which keeps the proof of a long chain of
-/// setters short.
-pub fn plain<T>(value: T) -> T {
-    value
 }
 
 /// Invokes an operation of the service. At most `fuel` questions are asked. An output or an

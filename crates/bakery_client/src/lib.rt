@@ -6,8 +6,6 @@ mod client;
 mod signing;
 mod watching;
 
-pub use client::{
-    BakeryBuilder, BakeryClient, BakeryOperation, added, invoke, plain, refusal, retry, taken_apart,
-};
+pub use client::{BakeryBuilder, BakeryClient, BakeryOperation, invoke, retry, taken_apart};
 pub use signing::{Signing, bearer_id, signing_by};
 pub use watching::{Ending, GetOrder, SECOND, Watch, wait};

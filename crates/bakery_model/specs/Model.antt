@@ -1,6 +1,5 @@
 -- Which payloads the values of the service's model are.
 use Rattle.std.specs.Prelude.{ℕ, Bool, ◌&&◌, ◌||◌, ◌==◌, if◌then◌else◌, List, Option, None, Some, codes, bytes_eq}
-use Rattle.std.specs.Str.{is_utf8}
 use Rattle.smithy_types.specs.declared.kinds.ErrorKind.{ErrorKind}
 use Rattle.smithy_types.specs.declared.kinds.ErrorKind.TheVariants.{ThrottlingError}
 use Rattle.smithy_types.specs.declared.payload.Payload.{Payload}
@@ -8,10 +7,6 @@ use Rattle.bakery_model.specs.declared.model.BakeryError.{BakeryError}
 use Rattle.bakery_model.specs.declared.model.BakeryError.TheVariants.{OvenBusy, NoSuchOrder}
 use Rattle.bakery_model.specs.declared.model.OrderState.{OrderState}
 use Rattle.bakery_model.specs.declared.model.OrderState.TheVariants.{Baking, Ready}
-
--- a text of this kind
-abbrev pub is_text : ℕ → Payload → Bool
-is_text kind p = (p.kind == kind) && is_utf8 p.bytes
 
 -- ---- how far an order is
 

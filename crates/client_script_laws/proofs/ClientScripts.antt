@@ -1,6 +1,6 @@
 -- A script of `client` has no float.
 use Rattle.std.proofs.Common.{ℕ, List, [], ◌∷◌, length, codes, refl}
-use Rattle.serde_json.specs.Data.{null, boolean, number, string, array, object, Members}
+use Rattle.serde_json.specs.Data.{object, Members}
 use Rattle.serde_json.specs.Find.{get_member}
 use Rattle.json_forms.specs.Plain.{number_at, number_below}
 use Rattle.json_forms.specs.Reading.{◌>>=◌}
@@ -14,7 +14,7 @@ use Rattle.client_scripts.specs.Script.{client_script_at}
 use Rattle.script_laws.specs.Floats.{FloatsSpellNothing}
 use Rattle.script_laws.proofs.PlainForms.{Plain, Refuses, below_plain, number_plain, rows_plain}
 use Rattle.script_laws.proofs.PlainMembers.{spells_nothing}
-use Rattle.client_script_laws.proofs.Clients.{buckets_plain, clients_plain, counted, run_found, run_names}
+use Rattle.client_script_laws.proofs.Clients.{buckets_plain, by_count, clients_plain, counted, run_found, run_names}
 use Rattle.client_script_laws.proofs.Counted.{all_counted, member_found}
 use Rattle.client_script_laws.proofs.Outsides.{words_plain}
 
@@ -27,13 +27,8 @@ invocation_object clients ms =
     all_counted (codes "client" ∷ run_names) ms refl (c, run) count)))
 
 invocation_plain : (clients : ℕ) → Refuses (invocation_at clients)
-unfolding invocation_at members_at Holds
-invocation_plain clients null = tt
-invocation_plain clients (boolean b) = tt
-invocation_plain clients (number n) = tt
-invocation_plain clients (string s) = tt
-invocation_plain clients (array ds) = tt
-invocation_plain clients (object ms) = invocation_object clients ms
+unfolding invocation_at
+invocation_plain clients = by_count (λ _. 5) _ (invocation_object clients)
 
 invocations_plain : (clients : ℕ) → Refuses (invocations_at clients)
 unfolding invocations_at
@@ -54,13 +49,8 @@ object_plain ms =
     all_counted script_names ms refl (s, (b, (w, (c, (i, tt))))) count))))))
 
 script_plain : Refuses client_script_at
-unfolding client_script_at members_at Holds
-script_plain null = tt
-script_plain (boolean b) = tt
-script_plain (number n) = tt
-script_plain (string s) = tt
-script_plain (array ds) = tt
-script_plain (object ms) = object_plain ms
+unfolding client_script_at
+script_plain = by_count (λ _. 5) _ object_plain
 
 pub client_scripts_plain : FloatsSpellNothing client_script_at
 client_scripts_plain text d e h = spells_nothing d (client_script_at d) (script_plain d) h

@@ -168,6 +168,17 @@ pub counted : (n : ℕ) (ms : Members) → Holds (λ _. member_count ms ≡ n) (
 unfolding members_at Holds
 counted n ms = either_by _ (member_count ms == n) (Some tt) None (λ e. eqb-true (member_count ms) n e) (λ _. tt)
 
+-- where nothing is read but an object of so many members
+pub by_count : {X : Type 0} (count : Data → ℕ) (rest : Data → Option X) → ((ms : Members) → Holds (λ (x : X). Plain (object ms)) (members_at (count (object ms)) (object ms) >>= λ _. rest (object ms)))
+    → Refuses (λ d. members_at (count d) d >>= λ _. rest d)
+unfolding members_at Holds
+by_count count rest f null = tt
+by_count count rest f (boolean b) = tt
+by_count count rest f (number n) = tt
+by_count count rest f (string s) = tt
+by_count count rest f (array ds) = tt
+by_count count rest f (object ms) = f ms
+
 -- ---- a client object
 
 abbrev HasFlags : Members → Type 0
@@ -240,13 +251,8 @@ client_object buckets ms =
     with_schemes (get_member (codes "http_schemes") ms) ms refl count hs (all_found ms r t c (a, here, plain)))))))))
 
 pub client_plain : (buckets : ℕ) → Refuses (client_at buckets)
-unfolding client_at members_at Holds
-client_plain buckets null = tt
-client_plain buckets (boolean b) = tt
-client_plain buckets (number n) = tt
-client_plain buckets (string s) = tt
-client_plain buckets (array ds) = tt
-client_plain buckets (object ms) = client_object buckets ms
+unfolding client_at
+client_plain buckets = by_count client_members _ (client_object buckets)
 
 pub clients_plain : (buckets : ℕ) → Refuses (clients_at buckets)
 unfolding clients_at

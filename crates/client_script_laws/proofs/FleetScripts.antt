@@ -1,6 +1,6 @@
 -- A script of `fleet` has no float.
 use Rattle.std.proofs.Common.{[], ◌∷◌, codes, refl}
-use Rattle.serde_json.specs.Data.{null, boolean, number, string, array, object, Members}
+use Rattle.serde_json.specs.Data.{object, Members}
 use Rattle.serde_json.specs.Find.{as_array, get_member}
 use Rattle.json_forms.specs.Lists.{list_of}
 use Rattle.json_forms.specs.Plain.{number_at}
@@ -16,7 +16,7 @@ use Rattle.fleet_script.specs.Script.{fleet_script_at}
 use Rattle.script_laws.specs.Floats.{FloatsSpellNothing}
 use Rattle.script_laws.proofs.PlainForms.{Plain, Refuses, kept, number_plain, rows_plain}
 use Rattle.script_laws.proofs.PlainMembers.{spells_nothing}
-use Rattle.client_script_laws.proofs.Clients.{bucket_plain, client_plain, counted, run_found, run_names}
+use Rattle.client_script_laws.proofs.Clients.{bucket_plain, by_count, client_plain, counted, run_found, run_names}
 use Rattle.client_script_laws.proofs.Counted.{all_counted, member_found}
 use Rattle.client_script_laws.proofs.Outsides.{words_plain}
 
@@ -29,13 +29,8 @@ run_object ms =
     weaker _ _ (run_at 0 (object ms)) (run_found 0 ms) (λ _ run. all_counted run_names ms refl run count))
 
 run_plain : Refuses caller_run_at
-unfolding caller_run_at members_at Holds
-run_plain null = tt
-run_plain (boolean b) = tt
-run_plain (number n) = tt
-run_plain (string s) = tt
-run_plain (array ds) = tt
-run_plain (object ms) = run_object ms
+unfolding caller_run_at
+run_plain = by_count (λ _. 4) _ run_object
 
 runs_plain : Refuses caller_runs_at
 unfolding caller_runs_at
@@ -50,13 +45,8 @@ caller_object ms =
     all_counted (codes "invocations" ∷ codes "client" ∷ []) ms refl (i, (c, tt)) count)))
 
 caller_plain : Refuses caller_at
-unfolding caller_at members_at Holds
-caller_plain null = tt
-caller_plain (boolean b) = tt
-caller_plain (number n) = tt
-caller_plain (string s) = tt
-caller_plain (array ds) = tt
-caller_plain (object ms) = caller_object ms
+unfolding caller_at
+caller_plain = by_count (λ _. 2) _ caller_object
 
 callers_plain : Refuses callers_at
 unfolding callers_at
@@ -75,13 +65,8 @@ object_plain ms =
     all_counted (codes "bucket" ∷ codes "start" ∷ codes "words" ∷ codes "callers" ∷ []) ms refl (b, (s, (w, (c, tt)))) count)))))
 
 script_plain : Refuses fleet_script_at
-unfolding fleet_script_at members_at Holds
-script_plain null = tt
-script_plain (boolean b) = tt
-script_plain (number n) = tt
-script_plain (string s) = tt
-script_plain (array ds) = tt
-script_plain (object ms) = object_plain ms
+unfolding fleet_script_at
+script_plain = by_count (λ _. 4) _ object_plain
 
 pub fleet_scripts_plain : FloatsSpellNothing fleet_script_at
 fleet_scripts_plain text d e h = spells_nothing d (fleet_script_at d) (script_plain d) h

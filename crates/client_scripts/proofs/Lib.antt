@@ -1,3 +1,3 @@
 pub mod Alone
-pub mod Fuel
+pub mod Sums
 pub mod Placed

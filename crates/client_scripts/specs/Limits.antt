@@ -2,7 +2,7 @@
 use Rattle.std.specs.Prelude.{ℕ, List, Bool, true, ◌&&◌, length, nat_le, sum_by}
 use Rattle.std.specs.List.{list_all}
 use Rattle.outside_scripts.specs.Limits.{sources_fit, records_fit}
-use Rattle.outside_scripts.specs.Sizes.{fits_or_none, text_fits, texts_fit}
+use Rattle.script_forms.specs.Texts.{fits_or_none, text_fits, texts_fit}
 use Rattle.client_scripts.specs.declared.script.ClientScript.{ClientScript}
 use Rattle.client_scripts.specs.declared.terms.AuthChoice.{AuthChoice}
 use Rattle.client_scripts.specs.declared.terms.AuthChoice.TheVariants as auths

@@ -9,9 +9,8 @@ use crate::script::ClientScript;
 use crate::terms::{
     AuthChoice, AuthSchemes, BucketTerms, ClientObject, HttpSchemeChoice, InvocationRecord,
 };
-use outside_scripts::{
-    optional_text_fits, optional_texts_fit, records_fit, sources_fit, text_fits, texts_fit,
-};
+use outside_scripts::{records_fit, sources_fit};
+use script_forms::{left_of, optional_text_fits, optional_texts_fit, text_fits, texts_fit};
 
 /// The most tokens of a bucket.
 const CAPACITY_LIMIT: u64 = 500_000_000;
@@ -98,7 +97,8 @@ fn invocation_fits(invocation: &InvocationRecord) -> bool
     records_fit(invocation.responses.as_slice())
 }
 
-fn invocations_fit(invocations: &[InvocationRecord]) -> bool
+/// Whether what comes of each request of the invocations is within its limit.
+pub fn invocations_fit(invocations: &[InvocationRecord]) -> bool
     ensures { result ≡ list_all invocation_fits invocations.now }
 {
     invocations
@@ -107,26 +107,30 @@ fn invocations_fit(invocations: &[InvocationRecord]) -> bool
 }
 
 // Whether the invocations' fuel together is within its limit.
-#[tactic(auto, using(crate::proofs::Fuel::fuels))]
+#[tactic(auto, using(crate::proofs::Sums::sums))]
 fn fuel_fits(invocations: &[InvocationRecord]) -> bool
     ensures { result ≡ nat_le (sum_by fuel_of invocations.now) 100000 }
 {
-    let mut room = FUEL_LIMIT;
-    for invocation in invocations {
-        match left_of(room, invocation.fuel) {
-            Some(left) => room = left,
-            None => return false,
-        }
+    match fuel_left(FUEL_LIMIT, invocations) {
+        Some(_) => true,
+        None => false,
     }
-    true
 }
 
-// What is left of the room behind an invocation.
-fn left_of(room: u64, fuel: u64) -> Option<u64>
-    ensures some { IfSome result (λ left. left + fuel ≡ room) }
-    ensures none { result ≡ None → room < fuel }
+/// What the fuel of these invocations leaves of the room; none where it is more.
+#[tactic(auto, using(crate::proofs::Sums::sums))]
+pub fn fuel_left(room: u64, invocations: &[InvocationRecord]) -> Option<u64>
+    ensures some { IfSome result (λ left. left + sum_by fuel_of invocations.now ≡ room) }
+    ensures none { result ≡ None → room < sum_by fuel_of invocations.now }
 {
-    room.checked_sub(fuel)
+    let mut left = room;
+    for invocation in invocations {
+        match left_of(left, invocation.fuel) {
+            Some(rest) => left = rest,
+            None => return None,
+        }
+    }
+    Some(left)
 }
 
 /// Whether capacities, texts, heads, the number of invocations and their fuel are within their

@@ -21,7 +21,7 @@ use Rattle.client_determined.proofs.Served.{runs_once}
 use Rattle.client_runs_determined.proofs.Parts.{plain}
 use Rattle.retry_determined.specs.Alike.{AreAlike}
 use Rattle.retry_determined.specs.Kinds.{RunsAlike}
-use Rattle.clients_determined.proofs.Endings.{one_ending, run_of}
+use Rattle.ending_determined.proofs.Endings.{one_ending, run_of}
 use Rattle.clients_determined.proofs.Resting.{RestAlike, enters, leaves}
 
 -- the bucket and the amount of a permit, and what limiters do

@@ -1,6 +1,5 @@
 pub mod Prioritized
 pub mod Resting
-pub mod Endings
 pub mod Invoked
 pub mod Ran
 pub mod Opened

@@ -26,7 +26,7 @@ use Rattle.smithy_types.specs.declared.partition.CustomPartition.{CustomPartitio
 use Rattle.smithy_types.specs.declared.partition.RetryPartition.{RetryPartition}
 use Rattle.auth_determined.specs.Alike.{LoadIsTimed}
 use Rattle.retry_determined.specs.Alike.{AreAlike, HoldAlike}
-use Rattle.clients_determined.proofs.Endings.{same_some}
+use Rattle.ending_determined.proofs.Endings.{same_some}
 use Rattle.clients_determined.proofs.Invoked.{ClientsAlike, pays, pays_from}
 use Rattle.clients_determined.proofs.Prioritized.{one_priority}
 use Rattle.clients_determined.proofs.Ran.{EachAlike, SetsAlike}

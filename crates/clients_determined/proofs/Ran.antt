@@ -16,7 +16,7 @@ use Rattle.smithy_types.specs.Chain.{Chained}
 use Rattle.smithy_types.specs.declared.notes.RetryAction.{RetryAction}
 use Rattle.retry_determined.specs.Alike.{AreAlike}
 use Rattle.retry_determined.specs.Kinds.{RunsAlike}
-use Rattle.clients_determined.proofs.Endings.{same_some}
+use Rattle.ending_determined.proofs.Endings.{same_some}
 use Rattle.clients_determined.proofs.Invoked.{ClientsAlike, invoked_once}
 
 abbrev pub asked : Ran → InvocationRecord

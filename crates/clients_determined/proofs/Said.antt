@@ -16,7 +16,7 @@ use Rattle.smithy_base.specs.declared.intercept.Slot.TheVariants as slots
 use Rattle.workload.specs.Made.{made_script}
 use Rattle.client_runs_determined.proofs.Parts.{own_alike}
 use Rattle.clients_determined.specs.Making.{MakesOneThing}
-use Rattle.clients_determined.proofs.Endings.{same_some}
+use Rattle.ending_determined.proofs.Endings.{same_some}
 use Rattle.clients_determined.proofs.Opened.{opened_alike}
 use Rattle.clients_determined.proofs.Told.{OneTelling, counts_once, plays_once}
 

@@ -1,22 +1,12 @@
 -- A replay is determined by its bytes.
-use Rattle.std.proofs.Common.{true, ℕ, List, [], ◌++◌, Option, Some, Result, Ok, Err, ◌≡◌, ◌≤◌, ◌⊎◌, false, length, refl, sym, ap, ◌∙◌, subst, inl, inr, arith}
-use Rattle.smithy_context.specs.declared.context.InterceptorContext.{InterceptorContext}
-use Rattle.smithy_types.specs.declared.kinds.StopPoint.{StopPoint}
-use Rattle.smithy_types.specs.declared.kinds.StopPoint.TheVariants as stops
-use Rattle.smithy_types.specs.declared.payload.Payload.{Payload}
+use Rattle.std.proofs.Common.{true, ℕ, List, [], ◌≡◌, ◌≤◌, false, length, refl, sym, ap, ◌∙◌, subst, inl, inr, arith}
 use Rattle.run_grammar.specs.declared.answer.Entry.{Entry}
 use Rattle.run_grammar.specs.Standing.{start}
-use Rattle.orchestrate.specs.Answered.{PayloadAnswered, ContextAnswered}
-use Rattle.orchestrate.specs.Handing.{HadMemory}
-use Rattle.orchestrate.specs.SpelledRuns.{IsRunWithin}
-use Rattle.orchestrate.specs.declared.execution.InvokeError.{InvokeError}
-use Rattle.orchestrate.specs.declared.execution.InvokeError.TheVariants as invoke_errors
-use Rattle.orchestrate.proofs.Completeness.{answers_determined, contexts_determined}
 use Rattle.orchestrate.proofs.SpelledLaw.{one_spelled_run}
-use Rattle.runcheck.specs.Endings.{ending_of, stopped_ending_of, EndsBy}
+use Rattle.ending_determined.proofs.Endings.{one_ending, run_of, same_some}
+use Rattle.runcheck.specs.Endings.{EndsBy}
 use Rattle.runcheck.specs.Print.{run_text}
 use Rattle.runcheck.specs.declared.ending.Ending.{Ending}
-use Rattle.runcheck.specs.declared.head.RunHead.{RunHead}
 use Rattle.scripts.specs.Replay.{IsScript, is_within}
 use Rattle.scripts.specs.declared.replay.Script.{Script}
 use Rattle.shell.specs.Determined.{IsFunctional}
@@ -30,47 +20,16 @@ use Rattle.shell.proofs.Determined.{Seen, seen, Told, status_of}
 use Rattle.commands.specs.Laws.{EachScriptIsReplayed, is_printed}
 use Rattle.commands.specs.Replay.{IsReplay, Replays, replay_says}
 use Rattle.world_run.specs.Outcome.{came_to}
-use Rattle.world_run.proofs.HadMemories.{ended_had_memory, stopped_had_memory}
-
-same_some : {X : Type 0} (x y : X) → Some x ≡ Some y → x ≡ y
-same_some x y e = cc
 
 one_script : (bytes : List ℕ) (s t : Script) → IsScript bytes s → IsScript bytes t → s ≡ t
 one_script bytes s t (u, e) (v, f) = same_some s t (sym e ∙ f)
 
 -- ---- one run
 
-payload_run : (p : Payload) (fuel : ℕ) (r : Result Payload (InvokeError Payload)) (log : List Entry) → HadMemory r → PayloadAnswered p fuel r [] log → IsRunWithin stops.None (start p) fuel log
-payload_run p fuel (Ok output) log h (l, g, b, w, e) = subst (IsRunWithin stops.None (start p) fuel) (sym g) (inl (b, w))
-payload_run p fuel (Err (invoke_errors.Sdk error)) log h (l, g, b, w, e) = subst (IsRunWithin stops.None (start p) fuel) (sym g) (inl (b, w))
-payload_run p fuel (Err invoke_errors.Unfinished) log h (l, g, b, i, n) = subst (IsRunWithin stops.None (start p) fuel) (sym g) (inr (b, i, n))
-payload_run p fuel (Err (invoke_errors.WrongType q)) log h a = absurd a
-payload_run p fuel (Err invoke_errors.OutOfMemory) log h a = absurd h
-
-context_run : (p : Payload) (stop : StopPoint) (fuel : ℕ) (r : Result InterceptorContext (InvokeError Payload)) (log : List Entry) → HadMemory r → ContextAnswered p stop fuel r [] log →
-    IsRunWithin stop (start p) fuel log
-context_run p stop fuel (Ok context) log h (l, g, b, w, e) = subst (IsRunWithin stop (start p) fuel) (sym g) (inl (b, w))
-context_run p stop fuel (Err (invoke_errors.Sdk error)) log h (l, g, b, w, e) = subst (IsRunWithin stop (start p) fuel) (sym g) (inl (b, w))
-context_run p stop fuel (Err invoke_errors.Unfinished) log h (l, g, b, i, n) = subst (IsRunWithin stop (start p) fuel) (sym g) (inr (b, i, n))
-context_run p stop fuel (Err (invoke_errors.WrongType q)) log h a = absurd a
-context_run p stop fuel (Err invoke_errors.OutOfMemory) log h a = absurd h
-
-run_of_ending : (h : RunHead) (stop : StopPoint) (log : List Entry) (e : Ending) → EndsBy h stop [] log e → IsRunWithin stop (start h.input) h.fuel log
-run_of_ending h stops.None log e (r, a, g) = payload_run h.input h.fuel r log (ended_had_memory h r e g) a
-run_of_ending h stops.BeforeTransmit log e (r, a, g) = context_run h.input stops.BeforeTransmit h.fuel r log (stopped_had_memory h r e g) a
-
-one_ending : (h : RunHead) (stop : StopPoint) (log : List Entry) (e f : Ending) → EndsBy h stop [] log e → EndsBy h stop [] log f → e ≡ f
-one_ending h stops.None log e f (r, a, g) (q, b, k) =
-    let same = answers_determined h.input h.fuel [] log r q (ended_had_memory h r e g) (ended_had_memory h q f k) a b in
-    same_some e f (sym g ∙ ap (ending_of h) same ∙ k)
-one_ending h stops.BeforeTransmit log e f (r, a, g) (q, b, k) =
-    let same = contexts_determined h.input stops.BeforeTransmit h.fuel [] log r q (stopped_had_memory h r e g) (stopped_had_memory h q f k) a b in
-    same_some e f (sym g ∙ ap (stopped_ending_of h) same ∙ k)
-
 one_replay : (s : Script) (log m : List Entry) (e f : Ending) → Replays s log e → Replays s m f → (log ≡ m) × (e ≡ f)
 one_replay s log m e f (x, left, u) (y, rest, v) =
     let h = s.head in
-    let same = one_spelled_run h.stop (start h.input) h.fuel s.answers left rest log m (run_of_ending h h.stop log e x) (run_of_ending h h.stop m f y) u v in
+    let same = one_spelled_run h.stop (start h.input) h.fuel s.answers left rest log m (run_of h h.stop log e x) (run_of h h.stop m f y) u v in
     (same, one_ending h h.stop m e f (subst (λ l. EndsBy h h.stop [] l e) same x) y)
 
 one_print : (s : Script) (t u : List ℕ) (a b : PrintStatus) → IsReplay s t a → IsReplay s u b → (t ≡ u) × (a ≡ b)

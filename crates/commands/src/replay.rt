@@ -57,7 +57,8 @@ fn print_of_script(alloc: Global, script: Script) -> Result<(Vec<u8>, PrintStatu
     let Script { head, answers } = script;
     let mut world = ScriptWorld::new(alloc, answers)?;
     let ending = run_script(alloc, &head, &mut world)?;
-    let text = print_run(alloc, &head, world.entries().as_slice(), &ending)?;
+    let entries = world.into_entries();
+    let text = print_run(alloc, &head, entries.as_slice(), &ending)?;
     Ok((text, outcome_of(&ending)))
 }
 

@@ -1,6 +1,5 @@
 //! The world of a client.
-ghost use Rattle.std.specs.Prelude.{◌≡◌, ◌<◌, [], ◌∷◌, ◌++◌, Ok, IfOk, vec_len, vec_capacity};
-ghost use Rattle.run_grammar.specs.Entry.{entry};
+ghost use Rattle.std.specs.Prelude.{◌≡◌, [], Ok, IfOk};
 ghost use Rattle.auth_parts.specs.Identities.{loads_of};
 ghost use Rattle.components.specs.Resting.{Exchanges};
 ghost use Rattle.retry_parts.specs.Strategies.{Closes};
@@ -10,7 +9,7 @@ use crate::Parts;
 use auth_endpoint::AuthScheme;
 use auth_parts::{DeserializeResponse, SerializeRequest};
 use identity_cell::ResolveIdentity;
-use orchestrate::World;
+use orchestrate::{World, with_entry, with_room};
 use outside::Outside;
 use retry_parts::TakeOffer;
 use retry_policy::ClassifyRetry;
@@ -18,7 +17,6 @@ use retry_quota::Quota;
 use run_grammar::{Answer, Entry, Question};
 use smithy_types::{List, OutOfMemory};
 use std::alloc::Global;
-use std::mem;
 
 /// A client's parts, with the log of what they were asked.
 #[derive(Drop)]
@@ -133,11 +131,7 @@ impl<
     }) w.parts l v.parts };
 
     fn ask(&mut self, alloc: Global, question: Question) -> Result<Answer, OutOfMemory> {
-        let mut entries = mem::replace(&mut self.log, List::new()).into_vec(alloc);
-        if entries.reserve(1).is_err() {
-            self.log = List::from_vec(entries);
-            return Err(OutOfMemory);
-        }
+        let entries = with_room(alloc, &mut self.log)?;
         match copied(self.parts.answer(alloc, &question)) {
             Ok((answer, noted)) => {
                 self.log = with_entry(entries, question, noted);
@@ -151,15 +145,6 @@ impl<
     }
 
     ghost relates_nothing = { λ w. refl };
-}
-
-// A log with this question and its answer at the end. There is room for them.
-fn with_entry(mut entries: Vec<Entry>, question: Question, answer: Answer) -> List<Entry>
-    requires { vec_len entries < vec_capacity entries }
-    ensures { result ≡ entries.items ++ entry question answer ∷ [] }
-{
-    entries.push_reserved(Entry { question, answer });
-    List::from_vec(entries)
 }
 
 // An answer and a copy of it.

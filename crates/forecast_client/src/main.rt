@@ -3,9 +3,10 @@
 #![tactic(auto)]
 
 ghost use Rattle.std.specs.Prelude.{◌≡◌};
-ghost use Rattle.forecast_service.specs.Model.{error_of, is_error, is_sky, is_text, sky_of};
+ghost use Rattle.forecast_service.specs.Model.{error_of, is_error, is_sky, sky_of};
 ghost use Rattle.orchestrate.specs.Answered.{InputAnswered};
 ghost use Rattle.orchestrate.specs.Growth.{GrewByAtMost};
+ghost use Rattle.text_payloads.specs.Text.{is_text};
 
 use anyhow::Result;
 use auth_endpoint::NoAuthScheme;
@@ -15,7 +16,7 @@ use forecast_service::{
     Sky,
 };
 use identity_cell::NoAuthIdentityResolver;
-use operation_builder::{BuildRefusal, IdentityResolver, OperationBuilder, Scheme};
+use operation_builder::{IdentityResolver, OperationBuilder, Scheme, added, refusal_of};
 use orchestrate::{InvokeError, Operation};
 use outside::Outside;
 use rate_limit::ClientRateLimiter;
@@ -89,7 +90,7 @@ fn get_forecast<X: Outside + Drop, Q: Quota + Drop>(
     quota: Q,
 ) -> Result<()> {
     let alloc = rt.alloc();
-    let builder: ForecastBuilder = plain(OperationBuilder::new());
+    let builder: ForecastBuilder = without_facts(OperationBuilder::new());
     let builder = builder
         .service_name(Text::from_static(SERVICE))
         .operation_name(Text::from_static("GetForecast"))
@@ -106,8 +107,14 @@ fn get_forecast<X: Outside + Drop, Q: Quota + Drop>(
     let builder = added(builder.retry_classifier(alloc, modelled))?;
     match builder.build(alloc, outside, quota) {
         Ok((operation, client)) => ask(rt, operation, client),
-        Err(back) => Err(refusal(back).into()),
+        Err(back) => Err(refusal_of(back).into()),
     }
+}
+
+// The same value, without the facts that are known of it: of a builder nothing is known then, and
+// no goal behind its setters computes on the parts of the empty one.
+fn without_facts<T>(value: T) -> T {
+    value
 }
 
 // At most three attempts, a second and two seconds apart, without a random part.
@@ -115,25 +122,6 @@ fn retry() -> RetryConfig {
     let mut retry = RetryConfig::standard();
     retry.static_base = true;
     retry
-}
-
-// The same value. What is known of it isn't handed on, which keeps the proof of a long chain of
-// setters short.
-fn plain<T>(value: T) -> T {
-    value
-}
-
-// The builder B with a part P, or want of memory.
-fn added<B: Drop, P: Drop>(addition: Result<B, (B, P, OutOfMemory)>) -> Result<B, OutOfMemory> {
-    match addition {
-        Ok(builder) => Ok(builder),
-        Err(_) => Err(OutOfMemory),
-    }
-}
-
-// Why a builder B didn't build. What came back is let go.
-fn refusal<B: Drop, X: Drop, Q: Drop>(back: (B, X, Q, BuildRefusal)) -> BuildRefusal {
-    back.3
 }
 
 // Asks for the forecast with this client.

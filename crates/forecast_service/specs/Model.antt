@@ -1,6 +1,5 @@
 -- Which payloads the values of the service's model are.
 use Rattle.std.specs.Prelude.{ℕ, Bool, ◌&&◌, ◌||◌, ◌==◌, if◌then◌else◌, List, Option, None, Some, codes, bytes_eq}
-use Rattle.std.specs.Str.{is_utf8}
 use Rattle.smithy_types.specs.declared.kinds.ErrorKind.{ErrorKind}
 use Rattle.smithy_types.specs.declared.kinds.ErrorKind.TheVariants.{ServerError}
 use Rattle.smithy_types.specs.declared.payload.Payload.{Payload}
@@ -8,10 +7,6 @@ use Rattle.forecast_service.specs.declared.model.ForecastError.{ForecastError}
 use Rattle.forecast_service.specs.declared.model.ForecastError.TheVariants.{StationAsleep, NoSuchStation}
 use Rattle.forecast_service.specs.declared.model.Sky.{Sky}
 use Rattle.forecast_service.specs.declared.model.Sky.TheVariants.{Clear, Rain, Snow}
-
--- a text of this kind
-abbrev pub is_text : ℕ → Payload → Bool
-is_text kind p = (p.kind == kind) && is_utf8 p.bytes
 
 -- ---- how the sky will be
 

@@ -1,20 +1,19 @@
 //! The payloads that the model's values are: a kind each, and the bytes of a body.
-ghost use Rattle.std.specs.Prelude.{◌≡◌, true, false, IfOk, MatchOption};
-ghost use Rattle.std.specs.Str.{is_utf8};
+ghost use Rattle.std.specs.Prelude.{◌≡◌, true, false, MatchOption};
 ghost use Rattle.forecast_service.specs.Model.{
   error_name,
   error_of,
   is_error,
   is_sky,
-  is_text,
   kind_of_error,
   sky_name,
   sky_of,
 };
 
 use crate::model::{ForecastError, GetForecastInput, GetForecastOutput, Sky};
-use smithy_types::{Blob, ErrorKind, OutOfMemory, Payload, ProvideErrorKind, Text, Wire};
+use smithy_types::{Blob, ErrorKind, OutOfMemory, Payload, ProvideErrorKind, Wire};
 use std::alloc::Global;
+use text_payloads::{read_text, text_payload};
 
 /// The kind of an input.
 pub const GET_FORECAST_INPUT: u32 = 1;
@@ -25,47 +24,10 @@ pub const GET_FORECAST_OUTPUT: u32 = 2;
 /// The kind of an error.
 pub const ERROR: u32 = 3;
 
-// The payload of this kind that a text is.
-fn text_payload(alloc: Global, kind: u32, text: &Text) -> Result<Payload, OutOfMemory>
-    ensures value { IfOk result (λ p. p ≡ record { kind = kind; bytes = text.now }) }
-    ensures accepted { IfOk result (λ p. is_text kind p ≡ true) }
-{
-    let bytes = text.as_str().as_bytes();
-    Ok(Payload {
-        kind,
-        bytes: Blob::from_slice(alloc, bytes)?,
-    })
-}
-
-// The text that a payload of this kind is.
-fn read_text(alloc: Global, kind: u32, payload: &Payload) -> Result<Option<Text>, OutOfMemory>
-    ensures { IfOk result (λ found. MatchOption found
-        (is_text kind payload.now ≡ false)
-        (λ text. (is_text kind payload.now ≡ true) × (text ≡ payload.now.bytes))) }
-{
-    if payload.kind != kind {
-        return Ok(None);
-    }
-    let text = read_utf8(alloc, payload.bytes.as_slice())?;
-    Ok(text)
-}
-
-// The text that these bytes are.
-fn read_utf8(alloc: Global, bytes: &[u8]) -> Result<Option<Text>, OutOfMemory>
-    ensures { IfOk result (λ found. MatchOption found
-        (is_utf8 bytes.now ≡ false)
-        (λ text. (is_utf8 bytes.now ≡ true) × (text ≡ bytes.now))) }
-{
-    match str::from_utf8(bytes) {
-        Ok(text) => Ok(Some(Text::from_str(alloc, text)?)),
-        Err(_) => Ok(None),
-    }
-}
-
 impl Wire for GetForecastInput {
     ghost use Rattle.std.specs.Prelude.{◌≡◌};
     ghost use Rattle.std.proofs.Common.{◌∙◌, sym};
-    ghost use Rattle.forecast_service.specs.Model.{is_text};
+    ghost use Rattle.text_payloads.specs.Text.{is_text};
 
     ghost accepts = { is_text 1 };
 

@@ -5,6 +5,7 @@ pub mod build;
 pub mod builder;
 pub mod chain;
 pub mod classifiers;
+pub mod handing_on;
 pub mod layer;
 pub mod ordered;
 pub mod own_interceptor;
@@ -18,6 +19,7 @@ pub mod setting;
 
 pub use build::Client;
 pub use builder::{AuthOptions, OperationBuilder, RegisteredDeserializer, StrategyKind};
+pub use handing_on::{added, refusal_of};
 pub use own_interceptor::OwnInterceptor;
 pub use plugin::Plugin;
 pub use refusal::BuildRefusal;

@@ -5,6 +5,7 @@ mod execution;
 mod finish;
 mod invocation;
 pub mod laws;
+mod log;
 mod operation;
 mod point;
 mod reply;
@@ -15,6 +16,7 @@ mod world;
 
 pub use execution::{InvokeError, invoke, invoke_with_stop_point};
 pub use invocation::{Invocation, Step};
+pub use log::{with_entry, with_room};
 pub use operation::Operation;
 pub use run_grammar::{Answer, Entry, Kind, Question, StopPoint};
 pub use script::{ScriptAnswer, ScriptWorld};

@@ -4,6 +4,7 @@ ghost use Rattle.run_grammar.specs.Fits.{fits};
 ghost use Rattle.run_grammar.specs.declared.answer.Answer.{Answer};
 ghost use Rattle.orchestrate.specs.Script.{default_for, next_of, left_by, RepliesBy};
 
+use crate::log::{with_entry, with_room};
 use crate::world::World;
 use run_grammar::{Answer, Entry, Kind, Question};
 use smithy_context::HookAnswer;
@@ -116,6 +117,13 @@ impl ScriptWorld {
     {
         &self.log
     }
+
+    /// What was asked and answered, in order. The answers that are left are let go.
+    pub fn into_entries(self) -> List<Entry>
+        ensures { result ≡ self.log }
+    {
+        self.log
+    }
 }
 
 impl World for ScriptWorld {
@@ -129,13 +137,8 @@ impl World for ScriptWorld {
     fn ask(&mut self, alloc: Global, question: Question) -> Result<Answer, OutOfMemory> {
         let kind = question.kind();
         let (noted, taken) = reply(self.answers.peek(), kind)?;
-        self.log.push(
-            alloc,
-            Entry {
-                question,
-                answer: noted,
-            },
-        )?;
+        let entries = with_room(alloc, &mut self.log)?;
+        self.log = with_entry(entries, question, noted);
         Ok(self.answers.answer(kind, taken))
     }
 

@@ -7,7 +7,8 @@ use Rattle.scripted.specs.declared.records.IdentityRecord.{IdentityRecord}
 use Rattle.scripted.specs.declared.records.RecordAnswer.{RecordAnswer}
 use Rattle.scripted.specs.declared.records.RecordAnswer.TheVariants as given
 use Rattle.scripted.specs.declared.records.ResponseRecord.{ResponseRecord}
-use Rattle.outside_scripts.specs.Sizes.{text_fits, head_fits}
+use Rattle.script_forms.specs.Heads.{head_fits}
+use Rattle.script_forms.specs.Texts.{text_fits}
 
 -- the text of a failure; an identity has none
 abbrev pub identity_answer_fits : IdentityAnswer → Bool

@@ -4,7 +4,7 @@ ghost use Rattle.std.specs.List.{list_all};
 ghost use Rattle.outside_scripts.specs.Limits.{identity_answer_fits, source_fits, sources_fit};
 ghost use Rattle.outside_scripts.specs.Limits.{record_fits, records_fit};
 
-use crate::sizes::{head_fits, text_fits};
+use script_forms::{head_fits, text_fits};
 use scripted::{IdentityAnswer, IdentityRecord, RecordAnswer, ResponseRecord};
 
 #[tactic(auto, unfolding(crate::specs::Limits::source_fits))]

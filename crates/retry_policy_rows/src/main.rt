@@ -6,7 +6,6 @@ mod backoffs;
 mod classifiers;
 mod connections;
 mod decisions;
-mod limiter;
 mod not_served;
 mod pauses;
 mod permits;

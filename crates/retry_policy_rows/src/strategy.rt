@@ -1,6 +1,6 @@
 //! What strategies are asked.
-use crate::limiter::FreeLimiter;
 use anyhow::Result as Told;
+use free_limiter::FreeLimiter;
 use retry_policy::{Decision, Initial, NeverRetryStrategy, StandardRetryStrategy, StrategyError};
 use retry_quota::{Quota, Registry, Sums, TokenBucket};
 use smithy_context::{InterceptorContext, Layer, Setting, Settings};

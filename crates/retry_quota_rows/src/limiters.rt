@@ -1,40 +1,9 @@
 //! A registry's limiters by their numbers, through the trait of quotas.
-ghost use Rattle.std.specs.Prelude.{Ok};
-
 use anyhow::Result as Told;
+use free_limiter::FreeLimiter;
 use retry_quota::{Limiter, Quota, Registry, RequestReason};
 use smithy_types::OutOfMemory;
 use std::alloc::Global;
-
-/// A limiter that refuses nothing.
-#[derive(Debug, Drop)]
-pub struct FreeLimiter;
-
-impl Limiter for FreeLimiter {
-    ghost at = { λ _. record {} };
-
-    ghost zero = { record {} };
-
-    ghost after_acquire = { λ limiter _ _. limiter };
-
-    ghost reply_to = { λ _ _ _. Ok tt };
-
-    ghost after_update = { λ limiter _ _. limiter };
-
-    fn at(_now: u64) -> FreeLimiter {
-        FreeLimiter
-    }
-
-    fn zero() -> FreeLimiter {
-        FreeLimiter
-    }
-
-    fn acquire(&mut self, _now: u64, _reason: RequestReason) -> Result<(), u64> {
-        Ok(())
-    }
-
-    fn update(&mut self, _now: u64, _throttled: bool) {}
-}
 
 fn one_limiter(alloc: Global) -> Result<Registry<FreeLimiter>, OutOfMemory> {
     let mut registry = Registry::new(alloc)?;

@@ -1,7 +1,7 @@
 //! A registry's buckets by their numbers, through the trait of quotas.
-use crate::limiters::FreeLimiter;
 use crate::lines;
 use anyhow::Result;
+use free_limiter::FreeLimiter;
 use retry_quota::{Permit, Quota, Registry, Sums, TokenBucket};
 use smithy_types::{ErrorKind, OutOfMemory};
 use std::alloc::Global;

@@ -1,9 +1,11 @@
 //! What a question hands on, as one line of text.
-use crate::told::{bucket_of, tell, tell_outcome, tell_request, tell_response};
+use crate::told::{
+    bucket_of, tell, tell_endpoint, tell_identity, tell_outcome, tell_request, tell_response,
+    tell_view,
+};
 use anyhow::Result;
 use run_grammar::Question;
-use smithy_context::{HookView, Settings};
-use smithy_types::{Endpoint, Identity, Shared};
+use smithy_context::Settings;
 use std::alloc::Global;
 
 /// The parts that the question hands on.
@@ -40,7 +42,10 @@ fn settings_of(question: &Question) -> Option<&Settings> {
 
 fn tell_parts(alloc: Global, text: &mut String, question: &Question) -> Result<()> {
     match question {
-        Question::Hook { view, .. } => tell_view(alloc, text, view),
+        Question::Hook { view, .. } => {
+            tell_view(alloc, text, view)?;
+            tell(alloc, text, "attempt", Some(view.attempt))
+        }
         Question::Serialize { input, .. } => {
             tell(alloc, text, "input", input.as_ref().map(|input| input.kind))
         }
@@ -92,39 +97,4 @@ fn tell_many(alloc: Global, text: &mut String, question: &Question) -> Result<()
         }
         _ => Ok(()),
     }
-}
-
-fn tell_view(alloc: Global, text: &mut String, view: &HookView) -> Result<()> {
-    tell(
-        alloc,
-        text,
-        "input",
-        view.input.as_ref().map(|input| input.kind),
-    )?;
-    tell_request(alloc, text, &view.request)?;
-    tell_response(alloc, text, &view.response)?;
-    tell_outcome(alloc, text, &view.outcome)?;
-    tell(alloc, text, "attempt", Some(view.attempt))
-}
-
-fn tell_identity(
-    alloc: Global,
-    text: &mut String,
-    identity: &Option<Shared<Identity>>,
-) -> Result<()> {
-    if let Some(identity) = identity {
-        tell(alloc, text, "identity", Some(identity.get().content.len()))?;
-    }
-    Ok(())
-}
-
-fn tell_endpoint(
-    alloc: Global,
-    text: &mut String,
-    endpoint: &Option<Shared<Endpoint>>,
-) -> Result<()> {
-    if let Some(endpoint) = endpoint {
-        tell(alloc, text, "endpoint", Some(&endpoint.get().url))?;
-    }
-    Ok(())
 }

@@ -2,7 +2,7 @@
 use anyhow::Result;
 use run_grammar::Standing;
 use smithy_context::{HookView, Setting, SettingKey, Settings};
-use smithy_types::{Body, HttpRequest, HttpResponse, Outcome, Shared};
+use smithy_types::{Body, Endpoint, HttpRequest, HttpResponse, Identity, Outcome, Shared};
 use std::alloc::Global;
 use std::fmt::Display;
 
@@ -74,8 +74,32 @@ pub fn tell_outcome(alloc: Global, text: &mut String, outcome: &Option<Outcome>)
     }
 }
 
-// The parts of the view.
-fn tell_view(alloc: Global, text: &mut String, view: &HookView) -> Result<()> {
+/// An identity by the length of its content.
+pub fn tell_identity(
+    alloc: Global,
+    text: &mut String,
+    identity: &Option<Shared<Identity>>,
+) -> Result<()> {
+    if let Some(identity) = identity {
+        tell(alloc, text, "identity", Some(identity.get().content.len()))?;
+    }
+    Ok(())
+}
+
+/// An endpoint by its URL.
+pub fn tell_endpoint(
+    alloc: Global,
+    text: &mut String,
+    endpoint: &Option<Shared<Endpoint>>,
+) -> Result<()> {
+    if let Some(endpoint) = endpoint {
+        tell(alloc, text, "endpoint", Some(&endpoint.get().url))?;
+    }
+    Ok(())
+}
+
+/// The parts of the view: what its input, request, response and outcome are.
+pub fn tell_view(alloc: Global, text: &mut String, view: &HookView) -> Result<()> {
     tell(
         alloc,
         text,
@@ -84,19 +108,14 @@ fn tell_view(alloc: Global, text: &mut String, view: &HookView) -> Result<()> {
     )?;
     tell_request(alloc, text, &view.request)?;
     tell_response(alloc, text, &view.response)?;
-    tell_outcome(alloc, text, &view.outcome)?;
-    tell(alloc, text, "bucket", bucket_of(&view.settings))
+    tell_outcome(alloc, text, &view.outcome)
 }
 
 // The parts that only the engine reads.
 fn tell_engine(alloc: Global, text: &mut String, standing: &Standing) -> Result<()> {
     tell(alloc, text, "scheme", standing.scheme.as_ref())?;
-    if let Some(identity) = &standing.identity {
-        tell(alloc, text, "identity", Some(identity.get().content.len()))?;
-    }
-    if let Some(endpoint) = &standing.endpoint {
-        tell(alloc, text, "endpoint", Some(&endpoint.get().url))?;
-    }
+    tell_identity(alloc, text, &standing.identity)?;
+    tell_endpoint(alloc, text, &standing.endpoint)?;
     tell(alloc, text, "delay", standing.delay)?;
     tell(alloc, text, "operation", standing.operation_deadline)?;
     tell(alloc, text, "attempt", standing.attempt_deadline)
@@ -107,6 +126,8 @@ pub fn standing(alloc: Global, standing: &Standing) -> Result<String> {
     let context = &standing.context;
     let mut text = format!(in alloc; "{:?} {}", context.phase, context.view.attempt)?;
     tell_view(alloc, &mut text, &context.view)?;
+    let bucket = bucket_of(&context.view.settings);
+    tell(alloc, &mut text, "bucket", bucket)?;
     if let Some(checkpoint) = &context.checkpoint {
         tell(alloc, &mut text, "checkpoint", Some(&checkpoint.get().uri))?;
     }

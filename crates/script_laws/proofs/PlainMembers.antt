@@ -1,10 +1,11 @@
 -- Objects that have no float: each of their members is read.
-use Rattle.std.proofs.Common.{◌≡◌, ℕ, List, Bool, true, ◌&&◌, ◌||◌, Option, Some, None, is_some, Ordering, Less, Equal, Greater, refl, sym, ap, subst, ◌∙◌, true≢false, ⊎_elim}
+use Rattle.std.proofs.Common.{◌≡◌, ℕ, List, [], ◌∷◌, Bool, true, ◌&&◌, Option, Some, None, is_some, Ordering, Less, Equal, Greater, refl, sym, ap, subst, ◌∙◌, true≢false, ⊎_elim}
 use Rattle.std.proofs.lemmas.Bool.{and_parts, or_cases, or_from}
 use Rattle.std.proofs.lemmas.Cmp.{nat_list_cmp_total, tied_itself}
 use Rattle.std.proofs.lemmas.Map.Text.{is_eq-slice_cmp}
 use Rattle.std.proofs.lemmas.Slice.Eq.{bytes_eq-Decides}
 use Rattle.std.specs.Cmp.Lexicographic.{slice_cmp}
+use Rattle.std.specs.List.{AllByRecursion}
 use Rattle.std.specs.Ordering.{nat_cmp, is_eq, is_lt, match_ordering}
 use Rattle.serde_json.specs.Data.{Data, null, boolean, number, string, array, object, Items, no_items, item, Members, no_members, member}
 use Rattle.serde_json.specs.Find.{as_array, get_member}
@@ -12,8 +13,8 @@ use Rattle.serde_json.specs.Written.{has_float, items_have_float, members_have_f
 use Rattle.json_back.specs.Carried.{is_below}
 use Rattle.json_forms.specs.Lists.{list_of}
 use Rattle.json_forms.specs.Reading.{◌>>=◌}
-use Rattle.value_json.proofs.SpelledForms.{Holds, step, weaker}
-use Rattle.scripts.specs.Replay.{is_name, members_all}
+use Rattle.value_json.proofs.SpelledForms.{Holds, either_by, step, weaker}
+use Rattle.script_forms.specs.Members.{is_among, is_name, members_all, only_among}
 use Rattle.script_laws.proofs.Ordered.{is_less, is_ordered, items_ordered, members_ordered}
 use Rattle.script_laws.proofs.PlainForms.{Plain, ArePlain, Refuses}
 
@@ -63,18 +64,27 @@ named_at Equal p k l ms d e is h here later = ap p (equal_keys k l is) ∙ here
 named_at Greater p k l ms d e is h here later = later h
 
 -- a name that is found passes the test that all names pass
-pub named : (p : List ℕ → Bool) (k : List ℕ) (ms : Members) (e : Data) → members_all p ms ≡ true → get_member k ms ≡ Some e → p k ≡ true
+named : (p : List ℕ → Bool) (k : List ℕ) (ms : Members) (e : Data) → members_all p ms ≡ true → get_member k ms ≡ Some e → p k ≡ true
 named p k no_members e h g = absurd (none_some None e refl g)
 named p k (member l d ms) e h g =
     let q = and_parts (p l) (members_all p ms) h in
     named_at (slice_cmp nat_cmp k l) p k l ms d e refl g q.0 (named p k ms e q.1)
 
-pub is_last : (name k : List ℕ) (ms : Members) (e : Data) → IsPlainAt name ms → get_member k ms ≡ Some e → is_name name k ≡ true → Plain e
-is_last name k ms e plain g h = plain e (subst (λ n. get_member n ms ≡ Some e) ((bytes_eq-Decides k name).0 h) g)
+at_name : (name k : List ℕ) (ms : Members) (e : Data) → IsPlainAt name ms → get_member k ms ≡ Some e → is_name name k ≡ true → Plain e
+at_name name k ms e plain g h = plain e (subst (λ n. get_member n ms ≡ Some e) ((bytes_eq-Decides k name).0 h) g)
 
--- it is this name, or one of the rest
-pub is_one : (name k : List ℕ) (rest : Bool) (ms : Members) (e : Data) → IsPlainAt name ms → get_member k ms ≡ Some e → (rest ≡ true → Plain e) → is_name name k || rest ≡ true → Plain e
-is_one name k rest ms e plain g others h = ⊎_elim (is_last name k ms e plain g) others (or_cases (is_name name k) rest h)
+-- what is found under a name that is one of these, each of which finds what is plain
+at_one_of : (names : List (List ℕ)) (k : List ℕ) (ms : Members) (e : Data) → AllByRecursion (λ name. IsPlainAt name ms) names → get_member k ms ≡ Some e → is_among names k ≡ true → Plain e
+at_one_of [] k ms e plain g h = absurd (true≢false (sym h))
+at_one_of (name ∷ names) k ms e plain g h = ⊎_elim (at_name name k ms e plain.0 g) (at_one_of names k ms e plain.1 g) (or_cases (is_name name k) (is_among names k) h)
+
+-- an object is plain where no member stands beside some, each of which is plain
+pub by_names : (names : List (List ℕ)) (ms : Members) → members_ordered ms ≡ true → members_all (is_among names) ms ≡ true → AllByRecursion (λ name. IsPlainAt name ms) names → Plain (object ms)
+by_names names ms h among plain = all_plain ms h (λ k e g. at_one_of names k ms e plain g (named (is_among names) k ms e among g))
+
+only_named : (names : List (List ℕ)) (ms : Members) → Holds (λ _. members_all (is_among names) ms ≡ true) (only_among names (object ms))
+unfolding only_among Holds
+only_named names ms = either_by _ (members_all (is_among names) ms) (Some tt) None (λ h. h) (λ _. tt)
 
 -- ---- a member that is read
 
@@ -107,6 +117,18 @@ spells_nothing d (Some x) h float = absurd (true≢false (sym float ∙ h))
 -- What it reads something of is plain, if its objects have each key once, in order.
 abbrev pub RefusesOrdered : {X : Type 0} → (Data → Option X) → Type 0
 RefusesOrdered {X} f = (d : Data) → is_ordered d ≡ true → Holds (λ (x : X). Plain d) (f d)
+
+-- where nothing is read but an object without members beside some
+pub by_members : {X : Type 0} (names : List (List ℕ)) (rest : Data → Option X)
+    → ((ms : Members) → members_ordered ms ≡ true → members_all (is_among names) ms ≡ true → Holds (λ (x : X). Plain (object ms)) (rest (object ms)))
+    → RefusesOrdered (λ d. only_among names d >>= λ _. rest d)
+unfolding only_among Holds
+by_members names rest f null h = tt
+by_members names rest f (boolean b) h = tt
+by_members names rest f (number n) h = tt
+by_members names rest f (string s) h = tt
+by_members names rest f (array ds) h = tt
+by_members {X} names rest f (object ms) h = step (λ _. members_all (is_among names) ms ≡ true) (λ (x : X). Plain (object ms)) (only_among names (object ms)) (λ _. rest (object ms)) (only_named names ms) (λ _ among. f ms h among)
 
 chosen_ordered : (o : Ordering) (x y z : Option Data) → Holds (λ d. is_ordered d ≡ true) x → Holds (λ d. is_ordered d ≡ true) y → Holds (λ d. is_ordered d ≡ true) z → Holds (λ d. is_ordered d ≡ true) (match_ordering o x y z)
 chosen_ordered Less x y z hx hy hz = hx

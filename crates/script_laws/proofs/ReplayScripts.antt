@@ -1,19 +1,19 @@
 -- A script of `replay` has no float.
 use Rattle.std.proofs.Common.{◌≡◌, codes, true, Option, Some, None, refl, subst}
-use Rattle.serde_json.specs.Data.{Data, null, boolean, number, string, array, object, Members}
+use Rattle.serde_json.specs.Data.{Data}
 use Rattle.serde_json.specs.Find.{as_array, as_str, get_member}
 use Rattle.json_forms.specs.Lists.{list_of}
 use Rattle.json_forms.specs.Plain.{number_at, pair_at}
 use Rattle.json_forms.specs.Reading.{◌>>=◌}
 use Rattle.value_json.specs.AnswerReadings.{answer_at, kind_at}
 use Rattle.value_json.specs.Readings.{payload_at}
-use Rattle.value_json.proofs.SpelledForms.{Holds, either_by, step, weaker}
-use Rattle.scripts.specs.Replay.{is_listed, listed_at, members_all, script_answer_at, script_at, stop_at, stop_of}
+use Rattle.value_json.proofs.SpelledForms.{Holds, step, weaker}
+use Rattle.scripts.specs.Replay.{script_answer_at, script_at, script_members, stop_at, stop_of}
 use Rattle.script_laws.specs.Floats.{FloatsSpellNothing}
-use Rattle.script_laws.proofs.Ordered.{is_ordered, members_ordered, ordered_when_read}
+use Rattle.script_laws.proofs.Ordered.{is_ordered, ordered_when_read}
 use Rattle.script_laws.proofs.PlainAnswers.{answer_plain, kind_plain}
 use Rattle.script_laws.proofs.PlainForms.{Plain, Refuses, kept, number_plain, pair_plain, part, rows_plain, str_plain}
-use Rattle.script_laws.proofs.PlainMembers.{IsPlainAt, all_plain, is_last, is_one, member_plain, member_then, named, none_some, some_same, spells_nothing}
+use Rattle.script_laws.proofs.PlainMembers.{by_members, by_names, member_plain, member_then, none_some, some_same, spells_nothing}
 use Rattle.script_laws.proofs.PlainValues.{payload_plain}
 
 script_answer_plain : Refuses script_answer_at
@@ -33,42 +33,17 @@ unfolding Holds
 stop_member None = λ e g. absurd (none_some None e refl g)
 stop_member (Some d) = weaker (λ _. Plain d) (λ _. (e : Data) → Some d ≡ Some e → Plain e) (stop_at d) (stop_plain d) (λ _ p e g. subst Plain (some_same d e g) p)
 
-listed : (ms : Members) → Holds (λ _. members_all is_listed ms ≡ true) (listed_at (object ms))
-unfolding listed_at Holds
-listed ms = either_by _ (members_all is_listed ms) (Some tt) None (λ h. h) (λ _. tt)
-
 -- the six members, and no other
-by_names : (ms : Members) → members_ordered ms ≡ true → members_all is_listed ms ≡ true → IsPlainAt (codes "input") ms → IsPlainAt (codes "fuel") ms → IsPlainAt (codes "stop") ms →
-    IsPlainAt (codes "output_kind") ms → IsPlainAt (codes "error_kind") ms → IsPlainAt (codes "answers") ms → Plain (object ms)
-unfolding is_listed
-by_names ms h names i f s o e a = all_plain ms h (λ k x g.
-    is_one (codes "input") k _ ms x i g
-    (is_one (codes "fuel") k _ ms x f g
-    (is_one (codes "stop") k _ ms x s g
-    (is_one (codes "output_kind") k _ ms x o g
-    (is_one (codes "error_kind") k _ ms x e g
-    (is_last (codes "answers") k ms x a g))))) (named is_listed k ms x names g))
-
-object_plain : (ms : Members) → members_ordered ms ≡ true → Holds (λ _. Plain (object ms)) (script_at (object ms))
-unfolding script_at Holds
-object_plain ms h =
-    step _ _ (listed_at (object ms)) _ (listed ms) (λ _ names.
+script_plain : (d : Data) → is_ordered d ≡ true → Holds (λ _. Plain d) (script_at d)
+unfolding script_at script_members Holds
+script_plain = by_members script_members _ (λ ms h among.
     step _ _ (get_member (codes "input") ms >>= payload_at) _ (member_plain payload_at payload_plain (codes "input") ms) (λ _ i.
     step _ _ (get_member (codes "fuel") ms >>= number_at) _ (member_plain number_at number_plain (codes "fuel") ms) (λ _ f.
     step _ _ (stop_of (get_member (codes "stop") ms)) _ (stop_member (get_member (codes "stop") ms)) (λ _ s.
     step _ _ (get_member (codes "output_kind") ms >>= number_at) _ (member_plain number_at number_plain (codes "output_kind") ms) (λ _ o.
     step _ _ (get_member (codes "error_kind") ms >>= number_at) _ (member_plain number_at number_plain (codes "error_kind") ms) (λ _ e.
     step _ _ (get_member (codes "answers") ms >>= as_array >>= list_of script_answer_at) _ (member_then as_array (list_of script_answer_at) (rows_plain script_answer_at script_answer_plain) (codes "answers") ms) (λ _ a.
-    by_names ms h names i f s o e a)))))))
-
-script_plain : (d : Data) → is_ordered d ≡ true → Holds (λ _. Plain d) (script_at d)
-unfolding script_at listed_at Holds
-script_plain null h = tt
-script_plain (boolean b) h = tt
-script_plain (number n) h = tt
-script_plain (string s) h = tt
-script_plain (array ds) h = tt
-script_plain (object ms) h = object_plain ms h
+    by_names script_members ms h among (i, (f, (s, (o, (e, (a, tt)))))))))))))
 
 pub replay_scripts_plain : FloatsSpellNothing script_at
 replay_scripts_plain text d e h = spells_nothing d (script_at d) (script_plain d (ordered_when_read text d e)) h

@@ -5,6 +5,7 @@ use Rattle.std.specs.Cmp.Lexicographic.{slice_cmp}
 use Rattle.std.specs.List.{list_all}
 use Rattle.std.specs.Ordering.{match_ordering, nat_cmp}
 use Rattle.json_forms.specs.Lists.{list_of}
+use Rattle.script_forms.specs.Members.{only_among}
 use Rattle.json_forms.specs.Plain.{number_at, pair_at}
 use Rattle.json_forms.specs.Reading.{◌>>=◌, Reads}
 use Rattle.json_forms.specs.declared.read.ReadError.{ReadError}
@@ -20,7 +21,7 @@ use Rattle.value_json.proofs.SpelledAnswers.{answer_fits}
 use Rattle.value_json.proofs.SpelledForms.{Holds, OfBytes, array_of_bytes, held, items_of_bytes, list_spelled, members_of_bytes, of_bytes, pair_of_bytes, past, step}
 use Rattle.value_json.proofs.SpelledHeads.{payload_spelled}
 use Rattle.value_json.proofs.TextBytes.{value_of_bytes}
-use Rattle.scripts.specs.Replay.{listed_at, script_answer_at, script_at, script_spellable, stop_of}
+use Rattle.scripts.specs.Replay.{script_answer_at, script_at, script_members, script_spellable, stop_of}
 use Rattle.scripts.specs.declared.replay.Script.{Script}
 
 -- ---- members
@@ -59,7 +60,7 @@ script_answer_spelled d h =
 script_spelled : (d : Data) → OfBytes d → Holds (λ s. script_spellable s ≡ true) (script_at d)
 unfolding script_at Holds
 script_spelled d h =
-    past _ (listed_at d) _ (λ _.
+    past _ (only_among script_members d) _ (λ _.
     step (λ i. payload_spellable i ≡ true) _ (get (codes "input") d >>= payload_at) _ (step OfBytes _ (get (codes "input") d) payload_at (get_of_bytes (codes "input") d h) payload_spelled) (λ i hi.
     past _ (get (codes "fuel") d >>= number_at) _ (λ f.
     past _ (stop_of (get (codes "stop") d)) _ (λ s.

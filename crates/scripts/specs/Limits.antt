@@ -1,9 +1,6 @@
 -- Which values are within the limits of a script.
-use Rattle.std.specs.Prelude.{ℕ, ◌+◌, List, [], ◌∷◌, ◌++◌, Bool, true, ◌&&◌, Option, Some, None, length, map, fold, sum_by, nat_le, if◌then◌else◌}
+use Rattle.std.specs.Prelude.{ℕ, List, [], ◌∷◌, ◌++◌, Bool, true, ◌&&◌, length, map, fold, nat_le, if◌then◌else◌}
 use Rattle.std.specs.List.{list_all, list_any}
-use Rattle.http_header.specs.FieldValue.{FieldValue}
-use Rattle.http_header.specs.HeaderMap.{pairs, value_count}
-use Rattle.smithy_types.specs.HeaderList.{HeaderList}
 use Rattle.smithy_context.specs.Setting.{same_key}
 use Rattle.smithy_types.specs.declared.fault.Outcome.{Outcome}
 use Rattle.smithy_types.specs.declared.fault.Outcome.TheVariants as outcomes
@@ -24,20 +21,10 @@ use Rattle.smithy_context.specs.declared.setting.SettingKey.TheVariants as keys
 use Rattle.run_grammar.specs.declared.answer.Answer.{Answer}
 use Rattle.run_grammar.specs.declared.answer.Answer.TheVariants as answers
 use Rattle.run_grammar.specs.declared.answer.Chosen.{Chosen}
+use Rattle.script_forms.specs.Heads.{head_fits}
+use Rattle.script_forms.specs.Texts.{fits_or_none, text_fits, texts_fit}
 
--- nothing, or a value that fits
-abbrev pub fits_or_none : {X : Type 0} → (X → Bool) → Option X → Bool
-fits_or_none fits None = true
-fits_or_none fits (Some x) = fits x
-
--- ---- texts, bodies and heads
-
--- a text has at most 4 KiB
-unfoldable pub text_fits : List ℕ → Bool
-text_fits t = nat_le (length t) 4096
-
-abbrev pub texts_fit : List (List ℕ) → Bool
-texts_fit ts = list_all text_fits ts
+-- ---- bodies, requests and responses
 
 -- a body has at most 16 KiB
 unfoldable pub bytes_fit : List ℕ → Bool
@@ -47,13 +34,6 @@ unfoldable pub body_fits : Body → Bool
 body_fits (bodies.Bytes b) = bytes_fit b
 body_fits (bodies.Once b) = bytes_fit b
 body_fits bodies.Taken = true
-
-abbrev pub header_size : List ℕ × FieldValue → ℕ
-header_size h = length h.0 + length (h.1).bytes
-
--- at most 32 headers, with at most 8 KiB together
-unfoldable pub head_fits : HeaderList → Bool
-head_fits hs = nat_le (value_count hs) 32 && nat_le (sum_by header_size (pairs hs)) 8192
 
 unfoldable pub request_fits : HttpRequest → Bool
 request_fits r = text_fits r.method && (text_fits r.uri && (head_fits r.headers && body_fits r.body))

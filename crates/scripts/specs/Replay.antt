@@ -1,9 +1,8 @@
 -- Which script a text is.
-use Rattle.std.specs.Prelude.{ℕ, ◌≡◌, ◌≤◌, List, [], Bool, true, ◌&&◌, ◌||◌, Option, Some, None, codes, fold, nat_le, nat_eq, length, IsUtf8, if◌then◌else◌}
-use Rattle.std.specs.Cmp.Lexicographic.{pointwise}
+use Rattle.std.specs.Prelude.{ℕ, ◌≡◌, List, [], ◌∷◌, Bool, ◌&&◌, Option, Some, None, codes, fold, nat_le, length, IsUtf8}
 use Rattle.std.specs.List.{list_all}
-use Rattle.serde_json.specs.Data.{Data, Items, Members, no_members, member}
-use Rattle.serde_json.specs.Find.{get, as_array, as_object, as_str}
+use Rattle.serde_json.specs.Data.{Data, Items}
+use Rattle.serde_json.specs.Find.{get, as_array, as_str}
 use Rattle.serde_json.specs.Read.{read}
 use Rattle.smithy_types.specs.declared.kinds.StopPoint.{StopPoint}
 use Rattle.smithy_types.specs.declared.kinds.StopPoint.TheVariants as stops
@@ -13,6 +12,7 @@ use Rattle.value_json.specs.AnswerReadings.{kind_at, answer_at}
 use Rattle.json_forms.specs.Forms.{named}
 use Rattle.scripts.specs.Limits.{answer_fits, layer_keys, with_keys, layer_of_answer}
 use Rattle.json_forms.specs.Lists.{list_of}
+use Rattle.script_forms.specs.Members.{only_among}
 use Rattle.value_json.specs.Names.{stop_text, stop_points}
 use Rattle.json_forms.specs.Plain.{number_at, pair_at}
 use Rattle.json_forms.specs.Reading.{◌>>=◌}
@@ -24,20 +24,9 @@ use Rattle.scripts.specs.declared.replay.Script.{Script}
 unfoldable pub script_answer_at : Data → Option ScriptAnswer
 script_answer_at d = pair_at d >>= λ p. kind_at p.0 >>= λ k. answer_at k p.1 >>= λ a. Some (record { kind = k; answer = a })
 
-abbrev pub is_name : List ℕ → List ℕ → Bool
-is_name name word = pointwise nat_eq word name
-
 -- the members that a script may have
-unfoldable pub is_listed : List ℕ → Bool
-is_listed k = is_name (codes "input") k || (is_name (codes "fuel") k || (is_name (codes "stop") k || (is_name (codes "output_kind") k || (is_name (codes "error_kind") k || is_name (codes "answers") k))))
-
-abbrev pub members_all : (List ℕ → Bool) → Members → Bool
-members_all p no_members = true
-members_all p (member k d ms) = p k && members_all p ms
-
--- no member beside them
-unfoldable pub listed_at : Data → Option (Unit {0})
-listed_at d = as_object d >>= λ ms. if members_all is_listed ms then Some tt else None
+unfoldable pub script_members : List (List ℕ)
+script_members = codes "input" ∷ codes "fuel" ∷ codes "stop" ∷ codes "output_kind" ∷ codes "error_kind" ∷ codes "answers" ∷ []
 
 unfoldable pub stop_at : Data → Option StopPoint
 stop_at d = as_str d >>= named stop_text stop_points
@@ -52,7 +41,7 @@ abbrev pub items_at : List ℕ → Data → Option Items
 items_at name d = get name d >>= as_array
 
 unfoldable pub script_at : Data → Option Script
-script_at d = listed_at d >>= λ _. get (codes "input") d >>= payload_at >>= λ i. get (codes "fuel") d >>= number_at >>= λ f. stop_of (get (codes "stop") d) >>= λ s.
+script_at d = only_among script_members d >>= λ _. get (codes "input") d >>= payload_at >>= λ i. get (codes "fuel") d >>= number_at >>= λ f. stop_of (get (codes "stop") d) >>= λ s.
     get (codes "output_kind") d >>= number_at >>= λ o. get (codes "error_kind") d >>= number_at >>= λ e. get (codes "answers") d >>= as_array >>= list_of script_answer_at >>= λ list.
     Some (record { head = record { input = i; fuel = f; stop = s; output_kind = o; error_kind = e }; answers = list })
 

@@ -1,67 +1,25 @@
 //! Limits of what a script may hold.
-ghost use Rattle.std.specs.Prelude.{◌≡◌, ◌+◌, ◌<◌, None, length, nat_le, sum_by, OnOk, IfSome};
+ghost use Rattle.std.specs.Prelude.{◌≡◌, OnOk};
 ghost use Rattle.std.specs.List.{list_all, list_any};
-ghost use Rattle.http_header.specs.HeaderMap.{pairs};
 ghost use Rattle.smithy_context.specs.Setting.{same_key};
-ghost use Rattle.scripts.specs.Limits.{fits_or_none, text_fits, texts_fit, bytes_fit, body_fits};
-ghost use Rattle.scripts.specs.Limits.{header_size, head_fits, request_fits, response_fits};
+ghost use Rattle.script_forms.specs.Texts.{fits_or_none};
+ghost use Rattle.scripts.specs.Limits.{bytes_fit, body_fits, request_fits, response_fits};
 ghost use Rattle.scripts.specs.Limits.{endpoint_header_fits, endpoint_fits, outcome_fits};
 ghost use Rattle.scripts.specs.Limits.{change_fits, setting_fits, key_fits, layer_entry_fits};
 ghost use Rattle.scripts.specs.Limits.{layer_fits, hook_answer_fits, chosen_fits, answer_fits};
 ghost use Rattle.scripts.specs.Limits.{layer_keys, with_key, with_keys, layer_of_answer};
 
-use http_header::HeaderMap;
 use run_grammar::{Answer, Chosen};
+use script_forms::{head_fits, optional_text_fits, optional_texts_fit, text_fits, texts_fit};
 use smithy_context::{Change, HookAnswer, Layer, LayerEntry, Setting, SettingKey};
 use smithy_types::{
-    Blob, Body, Endpoint, EndpointHeader, Headers, HttpRequest, HttpResponse, List, OutOfMemory,
-    Outcome, Shared, Text,
+    Blob, Body, Endpoint, EndpointHeader, HttpRequest, HttpResponse, List, OutOfMemory, Outcome,
+    Shared,
 };
 use std::alloc::Global;
 
-/// The most bytes of UTF-8 that a text may have.
-const TEXT_LIMIT: usize = 4096;
-
 /// The most bytes that a body may have.
 const BODY_LIMIT: usize = 16384;
-
-/// The most headers of a head.
-const HEADER_LIMIT: usize = 32;
-
-/// The most bytes of a head's names and values together.
-const HEAD_LIMIT: usize = 8192;
-
-#[tactic(auto, unfolding(crate::specs::Limits::text_fits))]
-fn text_fits(text: &Text) -> bool
-    ensures { result ≡ text_fits text.now }
-{
-    text.len() <= TEXT_LIMIT
-}
-
-fn texts_fit(texts: &List<Text>) -> bool
-    ensures { result ≡ texts_fit texts.now }
-{
-    let items = texts.as_slice();
-    items.iter().all(|text| text_fits(text))
-}
-
-fn optional_text_fits(text: &Option<Text>) -> bool
-    ensures { result ≡ fits_or_none text_fits text.now }
-{
-    match text {
-        Some(text) => text_fits(text),
-        None => true,
-    }
-}
-
-fn optional_texts_fit(texts: &Option<List<Text>>) -> bool
-    ensures { result ≡ fits_or_none texts_fit texts.now }
-{
-    match texts {
-        Some(texts) => texts_fit(texts),
-        None => true,
-    }
-}
 
 #[tactic(auto, unfolding(crate::specs::Limits::bytes_fit))]
 fn bytes_fit(bytes: &Blob) -> bool
@@ -79,40 +37,6 @@ fn body_fits(body: &Body) -> bool
         Body::Once(bytes) => bytes_fit(bytes),
         Body::Taken => true,
     }
-}
-
-#[tactic(auto, unfolding(crate::specs::Limits::head_fits))]
-fn head_fits(headers: &Headers) -> bool
-    ensures { result ≡ head_fits headers.now }
-{
-    match headers.as_map() {
-        Some(map) => map.len() <= HEADER_LIMIT && sizes_fit(map),
-        None => true,
-    }
-}
-
-// Whether the names and values are within their limit together.
-#[tactic(auto, using(crate::proofs::Sizes::sizes))]
-fn sizes_fit(map: &HeaderMap) -> bool
-    ensures { result ≡ nat_le (sum_by header_size (pairs map.now)) 8192 }
-{
-    let mut room = HEAD_LIMIT;
-    for (name, value) in map.iter() {
-        match left_of(room, name.as_bytes(), value.as_bytes()) {
-            Some(left) => room = left,
-            None => return false,
-        }
-    }
-    true
-}
-
-// What is left of the room behind a header.
-fn left_of(room: usize, name: &[u8], value: &[u8]) -> Option<usize>
-    ensures some { IfSome result (λ left. left + (length name.now + length value.now) ≡ room) }
-    ensures none { result ≡ None → room < length name.now + length value.now }
-{
-    let behind_name = room.checked_sub(name.len())?;
-    behind_name.checked_sub(value.len())
 }
 
 #[tactic(auto, unfolding(crate::specs::Limits::request_fits))]

@@ -1,11 +1,11 @@
 //! Scripts of `replay`.
 ghost use Rattle.std.specs.Prelude.{◌≡◌, [], true, nat_le, length, IfOk, IsErrOf, option_map};
-ghost use Rattle.serde_json.specs.View.{view, items_view, members_view};
+ghost use Rattle.serde_json.specs.View.{view, items_view};
 ghost use Rattle.json_forms.specs.Lists.{list_of};
+ghost use Rattle.script_forms.specs.Members.{only_among};
 ghost use Rattle.json_forms.specs.Reading.{Gives, Reads};
 ghost use Rattle.serde_json.specs.Find.{get};
-ghost use Rattle.scripts.specs.Replay.{script_answer_at, is_listed, members_all, listed_at};
-ghost use Rattle.scripts.specs.Replay.{items_at};
+ghost use Rattle.scripts.specs.Replay.{script_answer_at, script_members, items_at};
 ghost use Rattle.scripts.specs.Replay.{stop_at, stop_of, script_at, script_spellable, IsScript};
 ghost use Rattle.scripts.specs.Replay.{answers_fit, keys_fit, is_within};
 
@@ -14,7 +14,8 @@ use json_forms::ReadError;
 use json_forms::read::{member, number, pair, refusal, str};
 use orchestrate::ScriptAnswer;
 use runcheck::RunHead;
-use serde_json::{Map, Value};
+use script_forms::only_members;
+use serde_json::Value;
 use smithy_context::SettingKey;
 use smithy_types::{List, OutOfMemory, StopPoint};
 use std::alloc::Global;
@@ -115,43 +116,21 @@ fn read_stop(value: &Value) -> Result<StopPoint, ReadError>
 }
 
 // No member stands beside those of a script.
-#[tactic(auto, unfolding(crate::specs::Replay::listed_at))]
+#[tactic(auto, unfolding(crate::specs::Replay::script_members))]
 fn only_listed(value: &Value) -> Result<(), ReadError>
-    ensures { Reads result (listed_at (view value.now)) }
+    ensures { Reads result (only_among script_members (view value.now)) }
 {
-    match value.as_object() {
-        Some(members) => {
-            if all_listed(members) {
-                Ok(())
-            } else {
-                Err(ReadError::Refused)
-            }
-        }
-        None => Err(ReadError::Refused),
-    }
-}
-
-fn all_listed(members: &Map<String, Value>) -> bool
-    ensures { result ≡ members_all is_listed (members_view members.now.entries) }
-{
-    for (name, _) in members.iter() {
-        if !is_listed(name.as_str()) {
-            return false;
-        }
-    }
-    true
-}
-
-#[tactic(auto, unfolding(crate::specs::Replay::is_listed))]
-fn is_listed(name: &str) -> bool
-    ensures { result ≡ is_listed name.now }
-{
-    name == "input"
-        || name == "fuel"
-        || name == "stop"
-        || name == "output_kind"
-        || name == "error_kind"
-        || name == "answers"
+    only_members(
+        &[
+            "input",
+            "fuel",
+            "stop",
+            "output_kind",
+            "error_kind",
+            "answers",
+        ],
+        value,
+    )
 }
 
 // The answers, in their order. Each value is let go when it is read.

@@ -4,8 +4,8 @@
 
 use anyhow::{Result, bail};
 use bakery_client::{
-    BakeryBuilder, BakeryClient, BakeryOperation, Ending, GetOrder, SECOND, Watch, added,
-    bearer_id, invoke, plain, refusal, retry, signing_by, taken_apart, wait,
+    BakeryBuilder, BakeryClient, BakeryOperation, Ending, GetOrder, SECOND, Watch, bearer_id,
+    invoke, retry, signing_by, taken_apart, wait,
 };
 use bakery_model::{
     BakeryError, ERROR, GET_ORDER_OUTPUT, GetOrderInput, GetOrderOutput, PLACE_ORDER_OUTPUT,
@@ -15,7 +15,7 @@ use bakery_protocol::{
     BakeryDeserializer, BakerySerializer, ClientNameInterceptor, TooEarlyClassifier,
 };
 use http_schemes::BearerAuthScheme;
-use operation_builder::OperationBuilder;
+use operation_builder::{OperationBuilder, added, refusal_of};
 use orchestrate::InvokeError;
 use outside::Outside;
 use rate_limit::ClientRateLimiter;
@@ -83,7 +83,9 @@ fn place_order<X: Outside + Drop, Q: Quota + Drop>(
     let signing = signing_by(alloc, TOKEN)?;
     let early = Box::new(alloc, TooEarlyClassifier)?;
     let name = Box::new(alloc, ClientNameInterceptor)?;
-    let builder: BakeryBuilder<PlaceOrderInput, PlaceOrderOutput> = plain(OperationBuilder::new());
+    let builder: BakeryBuilder<PlaceOrderInput, PlaceOrderOutput> = without_facts(
+        OperationBuilder::new(),
+    );
     let builder = builder
         .service_name(Text::from_static(SERVICE))
         .operation_name(Text::from_static("PlaceOrder"))
@@ -104,8 +106,14 @@ fn place_order<X: Outside + Drop, Q: Quota + Drop>(
     let builder = added(builder.interceptor(alloc, name))?;
     match builder.build(alloc, outside, quota) {
         Ok((operation, client)) => place(rt, operation, client),
-        Err(back) => Err(refusal(back).into()),
+        Err(back) => Err(refusal_of(back).into()),
     }
+}
+
+// The same value, without the facts that are known of it: of a builder nothing is known then, and
+// no goal behind its setters computes on the parts of the empty one.
+fn without_facts<T>(value: T) -> T {
+    value
 }
 
 // Posts inputs to this path.
@@ -141,7 +149,9 @@ fn get_order<Q: Quota + Drop>(
 ) -> Result<()> {
     let alloc = rt.alloc();
     let signing = signing_by(alloc, TOKEN)?;
-    let builder: BakeryBuilder<GetOrderInput, GetOrderOutput> = plain(OperationBuilder::new());
+    let builder: BakeryBuilder<GetOrderInput, GetOrderOutput> = without_facts(
+        OperationBuilder::new(),
+    );
     let builder = builder
         .service_name(Text::from_static(SERVICE))
         .operation_name(Text::from_static("GetOrder"))
@@ -158,7 +168,7 @@ fn get_order<Q: Quota + Drop>(
     let builder = added(builder.identity_resolver(alloc, bearer_id(), signing.source))?;
     match builder.build(alloc, outside, quota) {
         Ok((operation, client)) => fetch(rt, operation, client, order),
-        Err(back) => Err(refusal(back).into()),
+        Err(back) => Err(refusal_of(back).into()),
     }
 }
 

@@ -1,8 +1,9 @@
 //! Two handles on one bucket, and a caller's quota through its trait.
-ghost use Rattle.std.specs.Prelude.{◌≡◌, Ok};
+ghost use Rattle.std.specs.Prelude.{◌≡◌};
 
 use crate::{SharedBucket, SharedQuota};
-use retry_quota::{Limiter, Permit, Quota, RequestReason, Sums, TokenBucket};
+use free_limiter::FreeLimiter;
+use retry_quota::{Permit, Quota, RequestReason, Sums, TokenBucket};
 use smithy_types::{ErrorKind, OutOfMemory, RetryPartition, Text};
 use std::alloc::Global;
 use std::marker::Brand;
@@ -10,36 +11,6 @@ use std::process::Abort;
 use std::sync::Wait;
 use std::sync::ledger::{Blank, Ledger};
 use std::test::Fail;
-
-/// A limiter that refuses nothing.
-#[derive(Debug, Drop)]
-pub struct FreeLimiter;
-
-impl Limiter for FreeLimiter {
-    ghost at = { λ _. record {} };
-
-    ghost zero = { record {} };
-
-    ghost after_acquire = { λ limiter _ _. limiter };
-
-    ghost reply_to = { λ _ _ _. Ok tt };
-
-    ghost after_update = { λ limiter _ _. limiter };
-
-    fn at(_now: u64) -> FreeLimiter {
-        FreeLimiter
-    }
-
-    fn zero() -> FreeLimiter {
-        FreeLimiter
-    }
-
-    fn acquire(&mut self, _now: u64, _reason: RequestReason) -> Result<(), u64> {
-        Ok(())
-    }
-
-    fn update(&mut self, _now: u64, _throttled: bool) {}
-}
 
 fn sums_are(sums: Sums, granted: u64, available: u64, held: u64, forgotten: u64) -> bool {
     let wanted = Sums {

@@ -1,12 +1,12 @@
 -- Which script of `wait` a text is.
-use Rattle.std.specs.Prelude.{ℕ, ◌≡◌, ◌≤◌, List, [], ◌∷◌, Bool, true, false, ◌&&◌, ◌||◌, Option, Some, None, codes, nat_le, nat_eq, IsUtf8, if◌then◌else◌}
-use Rattle.std.specs.Cmp.Lexicographic.{pointwise}
-use Rattle.serde_json.specs.Data.{Data, Members, no_members, member}
-use Rattle.serde_json.specs.Find.{get, as_array, as_object, as_str}
+use Rattle.std.specs.Prelude.{ℕ, ◌≡◌, ◌≤◌, List, [], ◌∷◌, Bool, ◌&&◌, Option, Some, None, codes, nat_le, IsUtf8, if◌then◌else◌}
+use Rattle.serde_json.specs.Data.{Data}
+use Rattle.serde_json.specs.Find.{get, as_array, as_str}
 use Rattle.serde_json.specs.Read.{read}
 use Rattle.smithy_types.specs.declared.acceptor.AcceptorState.{AcceptorState}
 use Rattle.json_forms.specs.Forms.{named, says, starts, tagged_at}
 use Rattle.json_forms.specs.Lists.{list_of}
+use Rattle.script_forms.specs.Members.{only_among}
 use Rattle.json_forms.specs.Plain.{number_at, triple_at}
 use Rattle.json_forms.specs.Reading.{◌>>=◌}
 use Rattle.value_json.specs.Readings.{payload_at}
@@ -29,20 +29,9 @@ state_at d = as_str d >>= named state_text acceptor_states
 unfoldable pub poll_at : Data → Option ScriptedPoll
 poll_at d = triple_at d >>= λ p. number_at p.0 >>= λ n. result_at p.1 >>= λ r. state_at p.2 >>= λ s. Some (record { nanos = n; result = r; state = s })
 
-abbrev pub is_name : List ℕ → List ℕ → Bool
-is_name name word = pointwise nat_eq word name
-
 -- the members that a script may have
-unfoldable pub is_listed : List ℕ → Bool
-is_listed k = is_name (codes "min") k || (is_name (codes "max") k || (is_name (codes "max_wait") k || (is_name (codes "start") k || (is_name (codes "fuel") k || (is_name (codes "words") k || is_name (codes "polls") k)))))
-
-abbrev pub members_all : (List ℕ → Bool) → Members → Bool
-members_all p no_members = true
-members_all p (member k d ms) = p k && members_all p ms
-
--- no member beside them
-unfoldable pub listed_at : Data → Option (Unit {0})
-listed_at d = as_object d >>= λ ms. if members_all is_listed ms then Some tt else None
+unfoldable pub script_members : List (List ℕ)
+script_members = codes "min" ∷ codes "max" ∷ codes "max_wait" ∷ codes "start" ∷ codes "fuel" ∷ codes "words" ∷ codes "polls" ∷ []
 
 unfoldable pub words_at : Data → Option (List ℕ)
 words_at d = as_array d >>= list_of number_at
@@ -64,7 +53,7 @@ abbrev pub built_of : WaitScript → Option WaitScript
 built_of s = if nat_le 1000000000 s.min && nat_le s.min s.max then Some s else None
 
 unfoldable pub script_at : Data → Option WaitScript
-script_at d = listed_at d >>= λ _. get (codes "min") d >>= number_at >>= λ a. get (codes "max") d >>= number_at >>= λ b. get (codes "max_wait") d >>= number_at >>= λ w.
+script_at d = only_among script_members d >>= λ _. get (codes "min") d >>= number_at >>= λ a. get (codes "max") d >>= number_at >>= λ b. get (codes "max_wait") d >>= number_at >>= λ w.
     get (codes "start") d >>= number_at >>= λ m. get (codes "fuel") d >>= number_at >>= λ f. get (codes "words") d >>= words_at >>= λ ws. get (codes "polls") d >>= polls_at >>= λ ps.
     built_of (record { min = a; max = b; max_wait = w; start = m; fuel = f; words = ws; polls = ps })
 

@@ -1,19 +1,21 @@
 //! Scripts of `wait`.
 ghost use Rattle.std.specs.Prelude.{◌≡◌, [], IfOk, IsErrOf};
-ghost use Rattle.serde_json.specs.View.{view, items_view, members_view};
+ghost use Rattle.serde_json.specs.View.{view, items_view};
 ghost use Rattle.json_forms.specs.Lists.{list_of};
+ghost use Rattle.script_forms.specs.Members.{only_among};
 ghost use Rattle.json_forms.specs.Plain.{number_at};
 ghost use Rattle.json_forms.specs.Reading.{Reads};
-ghost use Rattle.wait_script.specs.Script.{built_of, is_listed, is_within, IsBuildable, IsScript};
-ghost use Rattle.wait_script.specs.Script.{listed_at, members_all, poll_at, polls_at};
-ghost use Rattle.wait_script.specs.Script.{result_at, script_at, some_of, state_at, words_at};
+ghost use Rattle.wait_script.specs.Script.{built_of, is_within, IsBuildable, IsScript, poll_at};
+ghost use Rattle.wait_script.specs.Script.{polls_at, result_at, script_at, script_members};
+ghost use Rattle.wait_script.specs.Script.{some_of, state_at, words_at};
 
 use crate::states::state_named;
 use json_forms::ReadError;
 use json_forms::forms::{read_tagged, says, starts};
 use json_forms::read::{items, member, number, refusal, str, triple};
+use script_forms::only_members;
 use scripted_timers::{PollResult, ScriptedPoll};
-use serde_json::{Map, Value};
+use serde_json::Value;
 use smithy_types::{AcceptorState, List};
 use std::alloc::Global;
 use value_json::http::read_payload;
@@ -94,44 +96,14 @@ fn only_built(script: WaitScript) -> Result<WaitScript, ReadError>
 }
 
 // No member stands beside those of a script.
-#[tactic(auto, unfolding(crate::specs::Script::listed_at))]
+#[tactic(auto, unfolding(crate::specs::Script::script_members))]
 fn only_listed(value: &Value) -> Result<(), ReadError>
-    ensures { Reads result (listed_at (view value.now)) }
+    ensures { Reads result (only_among script_members (view value.now)) }
 {
-    match value.as_object() {
-        Some(members) => {
-            if all_listed(members) {
-                Ok(())
-            } else {
-                Err(ReadError::Refused)
-            }
-        }
-        None => Err(ReadError::Refused),
-    }
-}
-
-fn all_listed(members: &Map<String, Value>) -> bool
-    ensures { result ≡ members_all is_listed (members_view members.now.entries) }
-{
-    for (name, _) in members.iter() {
-        if !is_listed(name.as_str()) {
-            return false;
-        }
-    }
-    true
-}
-
-#[tactic(auto, unfolding(crate::specs::Script::is_listed))]
-fn is_listed(name: &str) -> bool
-    ensures { result ≡ is_listed name.now }
-{
-    name == "min"
-        || name == "max"
-        || name == "max_wait"
-        || name == "start"
-        || name == "fuel"
-        || name == "words"
-        || name == "polls"
+    only_members(
+        &["min", "max", "max_wait", "start", "fuel", "words", "polls"],
+        value,
+    )
 }
 
 /// The words that a waiter draws.

@@ -5,6 +5,7 @@ use Rattle.serde_json.specs.Data.{Data}
 use Rattle.serde_json.specs.Find.{get, as_array}
 use Rattle.serde_json.specs.Read.{read}
 use Rattle.json_forms.specs.Lists.{list_of}
+use Rattle.script_forms.specs.Members.{only_among}
 use Rattle.json_forms.specs.Plain.{number_at, number_below, sextuple_at}
 use Rattle.json_forms.specs.Reading.{◌>>=◌}
 use Rattle.retry_quota.specs.declared.state.BucketTerms.{BucketTerms}
@@ -12,8 +13,7 @@ use Rattle.scripted_fleet.specs.declared.waiter.ScriptedWaiter.{ScriptedWaiter}
 use Rattle.wait_script.specs.Script.{polls_at, words_at}
 use Rattle.waiter_fleet.specs.Plans.{is_good}
 use Rattle.waiter_fleet.specs.declared.plan.Plan.{Plan}
-use Rattle.waiters_script.specs.Members.{only_at}
-use Rattle.waiters_script.specs.declared.members.ScriptObject.TheVariants.{Whole, Waiter}
+use Rattle.waiters_script.specs.Members.{script_members, waiter_members}
 use Rattle.waiters_script.specs.declared.terms.WaitersScript.{WaitersScript}
 
 -- a capacity, the costs of a retry, of throttling and of a transient error, a reward and a rate
@@ -26,7 +26,7 @@ plan_at d = get (codes "min") d >>= number_at >>= λ a. get (codes "max") d >>= 
     Some (record { min_delay = a; max_delay = b; max_wait = w })
 
 unfoldable pub waiter_at : Data → Option ScriptedWaiter
-waiter_at d = only_at Waiter d >>= λ _. plan_at d >>= λ p. get (codes "polls") d >>= polls_at >>= λ ps. Some (record { plan = p; polls = ps })
+waiter_at d = only_among waiter_members d >>= λ _. plan_at d >>= λ p. get (codes "polls") d >>= polls_at >>= λ ps. Some (record { plan = p; polls = ps })
 
 -- at least one waiter
 abbrev pub some_of : List ScriptedWaiter → Option (List ScriptedWaiter)
@@ -45,7 +45,7 @@ abbrev pub good_of : WaitersScript → Option WaitersScript
 good_of s = if are_good s.waiters then Some s else None
 
 unfoldable pub script_at : Data → Option WaitersScript
-script_at d = only_at Whole d >>= λ _. get (codes "bucket") d >>= bucket_at >>= λ b. get (codes "start") d >>= number_at >>= λ m.
+script_at d = only_among script_members d >>= λ _. get (codes "bucket") d >>= bucket_at >>= λ b. get (codes "start") d >>= number_at >>= λ m.
     get (codes "fuel") d >>= number_at >>= λ f. get (codes "words") d >>= words_at >>= λ ws. get (codes "waiters") d >>= waiters_at >>= λ w.
     good_of (record { bucket = b; start = m; fuel = f; words = ws; waiters = w })
 

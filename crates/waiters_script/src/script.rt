@@ -6,7 +6,7 @@ ghost use Rattle.json_forms.specs.Reading.{Reads};
 ghost use Rattle.waiters_script.specs.Script.{are_good, bucket_at, good_of, plan_at, script_at};
 ghost use Rattle.waiters_script.specs.Script.{some_of, waiter_at, waiters_at, IsScript};
 
-use crate::members::{ScriptObject, only_members};
+use crate::members::{only_of_script, only_of_waiter};
 use crate::terms::WaitersScript;
 use json_forms::ReadError;
 use json_forms::read::{items, member, number, number_32, refusal, sextuple};
@@ -36,7 +36,7 @@ fn script_in(alloc: Global, value: &Value) -> Result<WaitersScript, ReadError>
     ensures reads { Reads result (script_at (view value.now)) }
     ensures good { IfOk result (λ s. are_good s.waiters ≡ true) }
 {
-    only_members(ScriptObject::Whole, value)?;
+    only_of_script(value)?;
     let bucket = read_bucket(member(value, "bucket")?)?;
     let start = number(member(value, "start")?)?;
     let fuel = number(member(value, "fuel")?)?;
@@ -129,7 +129,7 @@ fn waiters_in(alloc: Global, list: &[Value]) -> Result<List<ScriptedWaiter>, Rea
 fn read_waiter(alloc: Global, value: &Value) -> Result<ScriptedWaiter, ReadError>
     ensures { Reads result (waiter_at (view value.now)) }
 {
-    only_members(ScriptObject::Waiter, value)?;
+    only_of_waiter(value)?;
     let plan = read_plan(value)?;
     let polls = read_polls(alloc, member(value, "polls")?)?;
     Ok(ScriptedWaiter { plan, polls })

@@ -9,7 +9,8 @@ use Rattle.std.specs.List.{list_all}
 use Rattle.client_scripts.specs.Limits.{auth_fits, capacity_fits, client_fits, client_script_fits, fuel_of, invocation_fits}
 use Rattle.client_scripts.specs.Placed.{HasBucket, HasClient, IsPlaced}
 use Rattle.outside_scripts.specs.Limits.{record_fits}
-use Rattle.outside_scripts.specs.Sizes.{head_fits, text_fits}
+use Rattle.script_forms.specs.Heads.{head_fits}
+use Rattle.script_forms.specs.Texts.{text_fits}
 use Rattle.workload.specs.Made.{available, made_client, made_invocation, made_invocations, made_script, response_at_once, unavailable}
 use Rattle.workload.specs.Words.{word_behind}
 

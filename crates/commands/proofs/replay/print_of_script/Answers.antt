@@ -17,8 +17,8 @@ returns c = (
     c.run_script.new.world.answers,
     subst (λ (a : List ScriptAnswer). Spelled a c.run_script.new.world.log c.run_script.new.world.answers) c.in_ok-world.ensures.answers (c.in_ok-ending.ensures.spelled c.in_ok-world.ensures.log),
   ),
-  c.in_ok-text.ensures.text ∙ ap (λ (l : List Entry). run_text c.args.script.head l c.in_ok-ending.ending) (c.as_slice.ensures ∙ c.entries.ensures),
+  c.in_ok-text.ensures.text ∙ ap (λ (l : List Entry). run_text c.args.script.head l c.in_ok-ending.ending) (c.as_slice.ensures ∙ c.into_entries-entries.ensures),
   c.outcome_of.ensures,
-  subst (λ (l : List Entry). are_readable (run_data c.args.script.head l c.in_ok-ending.ending) ≡ true) (c.as_slice.ensures ∙ c.entries.ensures) c.in_ok-text.ensures.readable,
-  subst (λ (l : List Entry). IsUtf8 (run_text c.args.script.head l c.in_ok-ending.ending)) (c.as_slice.ensures ∙ c.entries.ensures) c.in_ok-text.ensures.characters,
+  subst (λ (l : List Entry). are_readable (run_data c.args.script.head l c.in_ok-ending.ending) ≡ true) (c.as_slice.ensures ∙ c.into_entries-entries.ensures) c.in_ok-text.ensures.readable,
+  subst (λ (l : List Entry). IsUtf8 (run_text c.args.script.head l c.in_ok-ending.ending)) (c.as_slice.ensures ∙ c.into_entries-entries.ensures) c.in_ok-text.ensures.characters,
 )

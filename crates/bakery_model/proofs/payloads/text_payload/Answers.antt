@@ -1,9 +1,0 @@
-use Rattle.std.proofs.Common.{◌≡◌, sym, subst, true}
-use Rattle.bakery_model.specs.Model.{is_text}
-use Rattle.bakery_model.proofs.Texts.{is_its_text}
-use Rattle.bakery_model.proofs.payloads.text_payload.Goals as goal
-
-pub returns-clause-accepted : goal.returns-clause-accepted
-returns-clause-accepted c =
-    subst (λ b. is_text c.args.kind (record { kind = c.args.kind; bytes = b }) ≡ true) (sym c.in_ok-from_slice.ensures)
-    (is_its_text c.args.kind _ c.as_bytes-bytes.ensures.utf8)

@@ -1,0 +1,2 @@
+pub mod HeadSizes
+pub mod Among
