@@ -1,6 +1,6 @@
 //! Readers of how a client signs.
 ghost use Rattle.std.specs.Prelude.{◌≡◌};
-ghost use Rattle.serde_json.specs.View.{view};
+ghost use Rattle.json_forms.specs.View.{view};
 ghost use Rattle.json_forms.specs.Reading.{Reads};
 ghost use Rattle.client_scripts.specs.Auth.{lazy_of, lazy_at, cache_at, auth_schemes_at, unsigned};
 ghost use Rattle.client_scripts.specs.Auth.{auth_at};
@@ -9,9 +9,8 @@ use crate::schemes::placed;
 use crate::terms::{AuthChoice, AuthSchemes, HttpSchemeChoice};
 use identity_cell::{LazyCacheBuilder, SharedIdentityCache};
 use json_forms::forms::{read_optional_number, read_optional_texts, read_tagged, read_texts, says};
-use json_forms::{ReadError, read};
+use json_forms::{ReadError, Value, read};
 use outside_scripts::read_sources;
-use serde_json::Value;
 use smithy_types::List;
 use std::alloc::Global;
 

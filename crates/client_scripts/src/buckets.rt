@@ -1,13 +1,12 @@
 //! Readers of buckets.
 ghost use Rattle.std.specs.Prelude.{◌≡◌};
-ghost use Rattle.serde_json.specs.View.{view, items_view};
+ghost use Rattle.json_forms.specs.View.{view, items_view};
 ghost use Rattle.json_forms.specs.Lists.{list_of};
 ghost use Rattle.json_forms.specs.Reading.{Reads};
 ghost use Rattle.client_scripts.specs.Buckets.{bucket_terms_at, buckets_at};
 
 use crate::terms::BucketTerms;
-use json_forms::{ReadError, read};
-use serde_json::Value;
+use json_forms::{ReadError, Value, read};
 use smithy_types::List;
 use std::alloc::Global;
 

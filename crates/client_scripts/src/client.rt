@@ -1,6 +1,6 @@
 //! Readers of client objects.
 ghost use Rattle.std.specs.Prelude.{◌≡◌};
-ghost use Rattle.serde_json.specs.View.{view, items_view};
+ghost use Rattle.json_forms.specs.View.{view, items_view};
 ghost use Rattle.json_forms.specs.Forms.{optional_at};
 ghost use Rattle.json_forms.specs.Lists.{list_of};
 ghost use Rattle.json_forms.specs.Reading.{Reads};
@@ -14,8 +14,7 @@ use crate::retries::{read_classifiers, read_retry_choice};
 use crate::schemes::read_http_schemes;
 use crate::terms::{ClientFlags, ClientObject, ClientRules, ClientTarget};
 use json_forms::forms::read_optional_text;
-use json_forms::{ReadError, read};
-use serde_json::Value;
+use json_forms::{ReadError, Value, read};
 use smithy_types::{List, StalledStreamProtectionConfig, Text};
 use std::alloc::Global;
 use value_json::setting::{read_stall, read_timeouts};
@@ -42,7 +41,7 @@ fn read_flags(value: &Value) -> Result<ClientFlags, ReadError>
     })
 }
 
-#[tactic(auto, unfolding(json_forms::specs::Forms::optional_at))]
+#[tactic(auto, unfolding(json_forms::specs::View::view, json_forms::specs::Forms::optional_at))]
 fn read_optional_stall(value: &Value) -> Result<Option<StalledStreamProtectionConfig>, ReadError>
     ensures { Reads result (optional_at stall_at (view value.now)) }
 {
@@ -100,7 +99,7 @@ fn read_target(alloc: Global, value: &Value) -> Result<ClientTarget, ReadError>
 fn client_members(value: &Value) -> usize
     ensures { result ≡ client_members (view value.now) }
 {
-    match value.get("http_schemes") {
+    match read::optional_member(value, "http_schemes") {
         Some(_) => CLIENT_MEMBERS + 1,
         None => CLIENT_MEMBERS,
     }
@@ -111,12 +110,12 @@ fn client_members(value: &Value) -> usize
 pub fn read_client(alloc: Global, buckets: usize, value: &Value) -> Result<ClientObject, ReadError>
     ensures { Reads result (client_at buckets (view value.now)) }
 {
-    only_members(client_members(value), value)?;
+    only_members(alloc, client_members(value), value)?;
     let rules = read_rules(buckets, value)?;
     let target = read_target(alloc, value)?;
     let classifiers = read_classifiers(alloc, read::member(value, "classifiers")?)?;
     let auth = read::member(value, "auth")?;
-    let http_schemes = read_http_schemes(alloc, value.get("http_schemes"))?;
+    let http_schemes = read_http_schemes(alloc, read::optional_member(value, "http_schemes"))?;
     let auth = read_auth(alloc, http_schemes, auth)?;
     Ok(ClientObject {
         target,

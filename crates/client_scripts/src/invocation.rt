@@ -1,15 +1,14 @@
 //! Readers of invocations.
 ghost use Rattle.std.specs.Prelude.{◌≡◌};
-ghost use Rattle.serde_json.specs.View.{view, items_view};
+ghost use Rattle.json_forms.specs.View.{view, items_view};
 ghost use Rattle.json_forms.specs.Lists.{list_of};
 ghost use Rattle.json_forms.specs.Reading.{Reads};
 ghost use Rattle.client_scripts.specs.Invocations.{stop_at, run_at, invocation_at, invocations_at};
 
 use crate::members::{only_members, read_place};
 use crate::terms::InvocationRecord;
-use json_forms::{ReadError, read};
+use json_forms::{ReadError, Value, read};
 use outside_scripts::read_records;
-use serde_json::Value;
 use smithy_types::{List, StopPoint};
 use std::alloc::Global;
 use value_json::http::read_payload;
@@ -56,7 +55,7 @@ pub fn read_invocation(
 ) -> Result<InvocationRecord, ReadError>
     ensures { Reads result (invocation_at clients (view value.now)) }
 {
-    only_members(INVOCATION_MEMBERS, value)?;
+    only_members(alloc, INVOCATION_MEMBERS, value)?;
     let client = read_place(clients, read::member(value, "client")?)?;
     read_run(alloc, client, value)
 }

@@ -1,30 +1,27 @@
 //! Readers of objects by the number of their members, and of places in lists.
 ghost use Rattle.std.specs.Prelude.{◌≡◌};
-ghost use Rattle.serde_json.specs.View.{view, members_view};
+ghost use Rattle.json_forms.specs.View.{view, members_view};
 ghost use Rattle.json_forms.specs.Forms.{optional_at};
 ghost use Rattle.json_forms.specs.Plain.{number_below};
 ghost use Rattle.json_forms.specs.Reading.{Reads};
 ghost use Rattle.client_scripts.specs.Members.{has_members, members_at};
 
-use json_forms::{ReadError, read};
-use serde_json::{Map, Value};
+use json_forms::read::Member;
+use json_forms::{ReadError, Value, members, read};
+use std::alloc::Global;
 
 /// An object with so many members.
 #[tactic(auto, unfolding(crate::specs::Members::members_at))]
-pub fn only_members(count: usize, value: &Value) -> Result<(), ReadError>
+pub fn only_members(alloc: Global, count: usize, value: &Value) -> Result<(), ReadError>
     ensures { Reads result (members_at count (view value.now)) }
 {
-    match value.as_object() {
-        Some(members) => has_members(count, members),
-        None => Err(ReadError::Refused),
-    }
+    has_members(alloc, count, read::members(value)?)
 }
 
-#[tactic(auto, using(json_forms::proofs::Members::counted))]
-fn has_members(count: usize, members: &Map<String, Value>) -> Result<(), ReadError>
-    ensures { Reads result (has_members count (members_view members.now.entries)) }
+fn has_members(alloc: Global, count: usize, members: &[Member]) -> Result<(), ReadError>
+    ensures { Reads result (has_members count (members_view members.now)) }
 {
-    if members.len() == count {
+    if members::has_members(alloc, count, members)? {
         Ok(())
     } else {
         Err(ReadError::Refused)
@@ -44,7 +41,7 @@ pub fn read_place(count: usize, value: &Value) -> Result<usize, ReadError>
 }
 
 /// The place of one of so many, or null.
-#[tactic(auto, unfolding(json_forms::specs::Forms::optional_at))]
+#[tactic(auto, unfolding(json_forms::specs::View::view, json_forms::specs::Forms::optional_at))]
 pub fn read_optional_place(count: usize, value: &Value) -> Result<Option<usize>, ReadError>
     ensures { Reads result (optional_at (number_below count) (view value.now)) }
 {

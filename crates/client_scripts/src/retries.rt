@@ -1,6 +1,6 @@
 //! Readers of how a client retries, and of its classifiers.
 ghost use Rattle.std.specs.Prelude.{◌≡◌};
-ghost use Rattle.serde_json.specs.View.{view, items_view};
+ghost use Rattle.json_forms.specs.View.{view, items_view};
 ghost use Rattle.json_forms.specs.Lists.{list_of};
 ghost use Rattle.json_forms.specs.Reading.{Reads};
 ghost use Rattle.client_scripts.specs.Retries.{retry_choice_at, code_at, classifier_at};
@@ -8,8 +8,7 @@ ghost use Rattle.client_scripts.specs.Retries.{classifiers_at};
 
 use crate::terms::{ClassifierChoice, RetryChoice};
 use json_forms::forms::{read_tagged, says};
-use json_forms::{ReadError, read};
-use serde_json::Value;
+use json_forms::{ReadError, Value, read};
 use smithy_types::List;
 use std::alloc::Global;
 use value_json::setting::read_retry;

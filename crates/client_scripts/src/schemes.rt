@@ -1,7 +1,7 @@
 //! Readers of a client's schemes of HTTP.
 ghost use Rattle.std.specs.Prelude.{◌≡◌, option_map};
 ghost use Rattle.std.specs.List.{count_by};
-ghost use Rattle.serde_json.specs.View.{view, items_view};
+ghost use Rattle.json_forms.specs.View.{view, items_view};
 ghost use Rattle.json_forms.specs.Lists.{list_of};
 ghost use Rattle.json_forms.specs.Reading.{Reads};
 ghost use Rattle.client_scripts.specs.Schemes.{only_says, is_alone, location_at, null_at};
@@ -12,13 +12,12 @@ ghost use Rattle.client_scripts.specs.Schemes.{is_placed, are_placed, placed};
 use crate::terms::{ApiKeyChoice, HttpSchemeChoice};
 use http_schemes::ApiKeyLocation;
 use json_forms::forms::{read_optional_text, read_word, says};
-use json_forms::{ReadError, read};
-use serde_json::Value;
+use json_forms::{ReadError, Value, read};
 use smithy_types::{List, Text};
 use std::alloc::Global;
 
 // Whether the array has this word alone.
-#[tactic(auto, unfolding(crate::specs::Schemes::is_alone))]
+#[tactic(auto, unfolding(crate::specs::Schemes::is_alone, json_forms::specs::View::view, json_forms::specs::View::items_view))]
 fn is_alone(word: &str, value: &Value) -> bool
     ensures { result ≡ is_alone word.now (view value.now) }
 {
@@ -28,7 +27,7 @@ fn is_alone(word: &str, value: &Value) -> bool
     }
 }
 
-#[tactic(auto, unfolding(crate::specs::Schemes::only_says), using(crate::proofs::Alone::not_alone))]
+#[tactic(auto, unfolding(crate::specs::Schemes::only_says, json_forms::specs::View::view, json_forms::specs::View::items_view), using(crate::proofs::Alone::not_alone))]
 fn only_says(word: &str, items: &[Value]) -> bool
     ensures { result ≡ only_says word.now (items_view items.now) }
 {
@@ -53,7 +52,7 @@ fn read_location(value: &Value) -> Result<ApiKeyLocation, ReadError>
 }
 
 // Null, where no text may stand.
-#[tactic(auto, unfolding(crate::specs::Schemes::null_at))]
+#[tactic(auto, unfolding(json_forms::specs::View::view, crate::specs::Schemes::null_at))]
 fn read_null(value: &Value) -> Result<Option<Text>, ReadError>
     ensures { Reads result (null_at (view value.now)) }
 {

@@ -1,6 +1,6 @@
 //! Scripts of `client`.
 ghost use Rattle.std.specs.Prelude.{◌≡◌, IfOk, IsErrOf};
-ghost use Rattle.serde_json.specs.View.{view};
+ghost use Rattle.json_forms.specs.View.{view};
 ghost use Rattle.json_forms.specs.Reading.{Reads};
 ghost use Rattle.client_scripts.specs.Placed.{IsPlaced};
 ghost use Rattle.client_scripts.specs.Script.{client_script_at, IsClientScript};
@@ -10,10 +10,8 @@ use crate::client::read_clients;
 use crate::invocation::read_invocations;
 use crate::members::only_members;
 use crate::terms::{BucketTerms, ClientObject, InvocationRecord};
-use json_forms::read::refusal;
-use json_forms::{ReadError, read};
+use json_forms::{Arena, ReadError, Value, read};
 use outside_scripts::read_words;
-use serde_json::Value;
 use smithy_types::List;
 use std::alloc::Global;
 
@@ -43,17 +41,16 @@ pub fn read_client_script(alloc: Global, bytes: &[u8]) -> Result<ClientScript, R
     ensures refused { IsErrOf result ReadError.Refused → (s : ClientScript) →
         IsClientScript bytes.now s → ⊥ }
 {
-    match Value::from_slice(alloc, bytes) {
-        Ok(value) => script_in(alloc, &value),
-        Err(error) => Err(refusal(&error)),
-    }
+    let mut arena = Arena::new(alloc);
+    let value = arena.read(bytes)?;
+    script_in(alloc, &value)
 }
 
 #[tactic(auto, unfolding(crate::specs::Script::client_script_at))]
 fn script_in(alloc: Global, value: &Value) -> Result<ClientScript, ReadError>
     ensures { Reads result (client_script_at (view value.now)) }
 {
-    only_members(SCRIPT_MEMBERS, value)?;
+    only_members(alloc, SCRIPT_MEMBERS, value)?;
     let start = read::number(read::member(value, "start")?)?;
     let buckets = read_buckets(alloc, read::member(value, "buckets")?)?;
     let words = read_words(alloc, read::member(value, "words")?)?;

@@ -1,6 +1,6 @@
 //! Readers of callers.
 ghost use Rattle.std.specs.Prelude.{◌≡◌};
-ghost use Rattle.serde_json.specs.View.{view, items_view};
+ghost use Rattle.json_forms.specs.View.{view, items_view};
 ghost use Rattle.json_forms.specs.Lists.{list_of};
 ghost use Rattle.json_forms.specs.Reading.{Reads};
 ghost use Rattle.fleet_script.specs.Callers.{caller_run_at, caller_runs_at, caller_at, callers_at};
@@ -11,8 +11,7 @@ use client_scripts::InvocationRecord;
 use client_scripts::client::read_client;
 use client_scripts::invocation::read_run;
 use client_scripts::members::only_members;
-use json_forms::{ReadError, read};
-use serde_json::Value;
+use json_forms::{ReadError, Value, read};
 use smithy_types::List;
 use std::alloc::Global;
 
@@ -30,7 +29,7 @@ const BUCKETS: usize = 1;
 fn read_caller_run(alloc: Global, value: &Value) -> Result<InvocationRecord, ReadError>
     ensures { Reads result (caller_run_at (view value.now)) }
 {
-    only_members(RUN_MEMBERS, value)?;
+    only_members(alloc, RUN_MEMBERS, value)?;
     read_run(alloc, 0, value)
 }
 
@@ -61,7 +60,7 @@ fn read_caller_runs(alloc: Global, value: &Value) -> Result<List<InvocationRecor
 pub fn read_caller(alloc: Global, value: &Value) -> Result<CallerRecord, ReadError>
     ensures { Reads result (caller_at (view value.now)) }
 {
-    only_members(CALLER_MEMBERS, value)?;
+    only_members(alloc, CALLER_MEMBERS, value)?;
     let invocations = read_caller_runs(alloc, read::member(value, "invocations")?)?;
     let client = read_client(alloc, BUCKETS, read::member(value, "client")?)?;
     Ok(CallerRecord {

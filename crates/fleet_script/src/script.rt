@@ -1,6 +1,6 @@
 //! Scripts of `fleet`.
 ghost use Rattle.std.specs.Prelude.{◌≡◌, IfOk, IsErrOf};
-ghost use Rattle.serde_json.specs.View.{view};
+ghost use Rattle.json_forms.specs.View.{view};
 ghost use Rattle.json_forms.specs.Reading.{Reads};
 ghost use Rattle.fleet_script.specs.Placed.{IsPlaced};
 ghost use Rattle.fleet_script.specs.Script.{fleet_script_at, IsFleetScript};
@@ -9,10 +9,8 @@ use crate::callers::read_callers;
 use crate::terms::FleetScript;
 use client_scripts::buckets::read_bucket_terms;
 use client_scripts::members::only_members;
-use json_forms::read::refusal;
-use json_forms::{ReadError, read};
+use json_forms::{Arena, ReadError, Value, read};
 use outside_scripts::read_words;
-use serde_json::Value;
 use std::alloc::Global;
 
 /// How many members a script has.
@@ -27,17 +25,16 @@ pub fn read_fleet_script(alloc: Global, bytes: &[u8]) -> Result<FleetScript, Rea
     ensures refused { IsErrOf result ReadError.Refused → (s : FleetScript) →
         IsFleetScript bytes.now s → ⊥ }
 {
-    match Value::from_slice(alloc, bytes) {
-        Ok(value) => script_in(alloc, &value),
-        Err(error) => Err(refusal(&error)),
-    }
+    let mut arena = Arena::new(alloc);
+    let value = arena.read(bytes)?;
+    script_in(alloc, &value)
 }
 
 #[tactic(auto, unfolding(crate::specs::Script::fleet_script_at))]
 fn script_in(alloc: Global, value: &Value) -> Result<FleetScript, ReadError>
     ensures { Reads result (fleet_script_at (view value.now)) }
 {
-    only_members(SCRIPT_MEMBERS, value)?;
+    only_members(alloc, SCRIPT_MEMBERS, value)?;
     let bucket = read_bucket_terms(read::member(value, "bucket")?)?;
     let start = read::number(read::member(value, "start")?)?;
     let words = read_words(alloc, read::member(value, "words")?)?;

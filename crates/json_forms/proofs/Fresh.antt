@@ -2,8 +2,8 @@
 use Rattle.std.proofs.Common.{◌≡◌, ℕ, ◌+◌, ◌<◌, ◌≤◌, List, [], ◌∷◌, ◌++◌, length, drop, get_or, Bool, true, false, not, nat_eq, Option, Some, None, refl, ap, ◌∙◌, sym, if◌then◌else◌}
 use Rattle.std.specs.Cmp.Lexicographic.{pointwise}
 use Rattle.std.specs.List.{list_any}
-use Rattle.serde_json.specs.View.{view, items_view}
-use Rattle.serde_json.specs.declared.value.Value.{Value}
+use Rattle.json_forms.specs.View.{view, items_view}
+use Rattle.json.specs.declared.value.Value.{Value}
 use Rattle.json_forms.specs.Lists.{list_of}
 use Rattle.json_forms.specs.Lists.{fresh, name_at, once, named_once}
 use Rattle.json_forms.specs.Reading.{◌>>=◌, Fails}
@@ -21,9 +21,9 @@ unfolding fresh_then
 by_reading None = refl
 by_reading (Some ns) = refl
 
-pub fresh-init : (vs : List Value) → fresh_then [] (list_of name_at (items_view vs)) ≡ named_once (items_view vs)
+pub fresh-init : {A : Type 0} (vs : List (Value A)) → fresh_then [] (list_of name_at (items_view vs)) ≡ named_once (items_view vs)
 unfolding named_once
-fresh-init vs = by_reading (list_of name_at (items_view vs))
+fresh-init {A} vs = by_reading (list_of name_at (items_view vs))
 
 not-true : (b : Bool) → true ≡ not b → b ≡ false
 not-true true h = absurd (cc)
@@ -33,9 +33,9 @@ not-false : (b : Bool) → false ≡ not b → b ≡ true
 not-false true h = refl
 not-false false h = absurd (cc)
 
-step : (seen : List (List ℕ)) (vs : List Value) (i : ℕ) (v : Value) (n : List ℕ) → i < length vs → v ≡ get_or vs i v → name_at (view v) ≡ Some n →
+step : {A : Type 0} (seen : List (List ℕ)) (vs : List (Value A)) (i : ℕ) (v : Value A) (n : List ℕ) → i < length vs → v ≡ get_or vs i v → name_at (view v) ≡ Some n →
     fresh_then seen (list_of name_at (items_view (drop i vs))) ≡ fresh_then seen (list_of name_at (items_view (drop (i + 1) vs)) >>= λ ns. Some (n ∷ ns))
-step seen vs i v n a e r =
+step {A} seen vs i v n a e r =
     ap (fresh_then seen) (list_of-drop name_at vs i v a e ∙ ap (λ (o : Option (List ℕ)). o >>= λ x. list_of name_at (items_view (drop (i + 1) vs)) >>= λ xs. Some (x ∷ xs)) r)
 
 new-name : (seen : List (List ℕ)) (n : List ℕ) (o : Option (List (List ℕ))) → list_any (pointwise nat_eq n) seen ≡ false →
@@ -51,32 +51,32 @@ old-name seen n None h = refl
 old-name seen n (Some ns) h = rw h refl
 
 -- a name that wasn't seen
-pub name-new : (seen next : List (List ℕ)) (vs : List Value) (i : ℕ) (v : Value) (n : List ℕ) → i < length vs → v ≡ get_or vs i v → name_at (view v) ≡ Some n →
+pub name-new : {A : Type 0} (seen next : List (List ℕ)) (vs : List (Value A)) (i : ℕ) (v : Value A) (n : List ℕ) → i < length vs → v ≡ get_or vs i v → name_at (view v) ≡ Some n →
     true ≡ not (list_any (pointwise nat_eq n) seen) → next ≡ seen ++ n ∷ [] →
     fresh_then next (list_of name_at (items_view (drop (i + 1) vs))) ≡ fresh_then seen (list_of name_at (items_view (drop i vs)))
-name-new seen next vs i v n a e r h f =
+name-new {A} seen next vs i v n a e r h f =
     ap (λ (l : List (List ℕ)). fresh_then l (list_of name_at (items_view (drop (i + 1) vs)))) f
     ∙ new-name seen n (list_of name_at (items_view (drop (i + 1) vs))) (not-true (list_any (pointwise nat_eq n) seen) h)
     ∙ sym (step seen vs i v n a e r)
 
 -- a name that was seen
-pub name-again : (seen : List (List ℕ)) (vs : List Value) (i : ℕ) (v : Value) (n : List ℕ) → i < length vs → v ≡ get_or vs i v → name_at (view v) ≡ Some n →
+pub name-again : {A : Type 0} (seen : List (List ℕ)) (vs : List (Value A)) (i : ℕ) (v : Value A) (n : List ℕ) → i < length vs → v ≡ get_or vs i v → name_at (view v) ≡ Some n →
     false ≡ not (list_any (pointwise nat_eq n) seen) → fresh_then seen (list_of name_at (items_view (drop i vs))) ≡ named_once (items_view vs) →
     named_once (items_view vs) ≡ None
-name-again seen vs i v n a e r h w =
+name-again {A} seen vs i v n a e r h w =
     sym w ∙ step seen vs i v n a e r ∙ old-name seen n (list_of name_at (items_view (drop (i + 1) vs))) (not-false (list_any (pointwise nat_eq n) seen) h)
 
 -- a name that was not read
-pub name-fail : (error : ReadError) (seen : List (List ℕ)) (vs : List Value) (i : ℕ) (v : Value) → i < length vs → v ≡ get_or vs i v →
+pub name-fail : {A : Type 0} (error : ReadError) (seen : List (List ℕ)) (vs : List (Value A)) (i : ℕ) (v : Value A) → i < length vs → v ≡ get_or vs i v →
     fresh_then seen (list_of name_at (items_view (drop i vs))) ≡ named_once (items_view vs) → Fails error (name_at (view v)) → Fails error (named_once (items_view vs))
 unfolding fresh_then
-name-fail Memory seen vs i v a e w r = tt
-name-fail Refused seen vs i v a e w r =
+name-fail {A} Memory seen vs i v a e w r = tt
+name-fail {A} Refused seen vs i v a e w r =
     sym w ∙ ap (fresh_then seen) (list_of-drop name_at vs i v a e ∙ ap (λ (o : Option (List ℕ)). o >>= λ x. list_of name_at (items_view (drop (i + 1) vs)) >>= λ xs. Some (x ∷ xs)) r)
 
 -- no name more
-pub name-end : (seen : List (List ℕ)) (vs : List Value) (i : ℕ) → length vs ≤ i → fresh_then seen (list_of name_at (items_view (drop i vs))) ≡ Some tt
+pub name-end : {A : Type 0} (seen : List (List ℕ)) (vs : List (Value A)) (i : ℕ) → length vs ≤ i → fresh_then seen (list_of name_at (items_view (drop i vs))) ≡ Some tt
 unfolding fresh_then
-name-end seen vs i h = ap (fresh_then seen) (list_of-end name_at vs i h)
+name-end {A} seen vs i h = ap (fresh_then seen) (list_of-end name_at vs i h)
 
 pub ruleset fresh_names = (fresh-init, name-new, name-again, name-fail, name-end)

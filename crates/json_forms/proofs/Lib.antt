@@ -1,7 +1,12 @@
+pub mod Counting
+pub mod TextBytes
+pub mod Found
+pub mod Ranges
+pub mod RangeLoops
+pub mod Unsigned
 pub mod NoFloat
 pub mod OtherLength
 pub mod Shown
 pub mod ReadLists
-pub mod Members
 pub mod Seen
 pub mod Fresh

@@ -2,8 +2,8 @@
 use Rattle.std.proofs.Common.{◌≡◌, ℕ, suc, ◌+◌, ◌<◌, ◌≤◌, List, [], ◌∷◌, ◌++◌, length, drop, get_or, Option, Some, None, refl, ap, ◌∙◌, sym, drop-cons, add-one, append_assoc}
 use Rattle.std.proofs.lemmas.List.{append-nil, drop_all}
 use Rattle.serde_json.specs.Data.{Data, Items, no_items, item}
-use Rattle.serde_json.specs.View.{view, items_view}
-use Rattle.serde_json.specs.declared.value.Value.{Value}
+use Rattle.json_forms.specs.View.{view, items_view}
+use Rattle.json.specs.declared.value.Value.{Value}
 use Rattle.json_forms.specs.Lists.{list_of}
 use Rattle.json_forms.specs.Reading.{◌>>=◌, Fails}
 use Rattle.json_forms.specs.declared.read.ReadError.{ReadError}
@@ -30,36 +30,39 @@ list_of-nil : {X : Type 0} (f : Data → Option X) → list_of f no_items ≡ So
 unfolding list_of
 list_of-nil f = refl
 
-pub list_of-drop : {X : Type 0} (f : Data → Option X) (vs : List Value) (i : ℕ) (v : Value) → i < length vs → v ≡ get_or vs i v →
+pub list_of-drop : {A X : Type 0} (f : Data → Option X) (vs : List (Value A)) (i : ℕ) (v : Value A) → i < length vs → v ≡ get_or vs i v →
     list_of f (items_view (drop i vs)) ≡ (f (view v) >>= λ x. list_of f (items_view (drop (i + 1) vs)) >>= λ xs. Some (x ∷ xs))
-list_of-drop f vs i v h e =
-    ap (λ (l : List Value). list_of f (items_view l)) (drop-cons vs i v h ∙ ap (λ (q : Value). q ∷ drop (suc i) vs) (sym e))
+unfolding items_view view
+list_of-drop {A} f vs i v h e =
+    ap (λ (l : List (Value A)). list_of f (items_view l)) (drop-cons vs i v h ∙ ap (λ (q : Value A). q ∷ drop (suc i) vs) (sym e))
     ∙ rw add-one (list_of-cons f (view v) (items_view (drop (suc i) vs)))
 
 -- one item more
-pub list_more : {X : Type 0} (f : Data → Option X) (front : List X) (vs : List Value) (i : ℕ) (v : Value) (x : X) → i < length vs → v ≡ get_or vs i v → f (view v) ≡ Some x →
+pub list_more : {A X : Type 0} (f : Data → Option X) (front : List X) (vs : List (Value A)) (i : ℕ) (v : Value A) (x : X) → i < length vs → v ≡ get_or vs i v → f (view v) ≡ Some x →
     behind (front ++ x ∷ []) (list_of f (items_view (drop (i + 1) vs))) ≡ behind front (list_of f (items_view (drop i vs)))
-list_more {X} f front vs i v x h e r =
+list_more {A} {X} f front vs i v x h e r =
     sym (ap (behind front) (list_of-drop f vs i v h e ∙ ap (λ (o : Option X). o >>= λ y. list_of f (items_view (drop (i + 1) vs)) >>= λ ys. Some (y ∷ ys)) r)
     ∙ behind-push front x (list_of f (items_view (drop (i + 1) vs))))
 
-list_none : {X : Type 0} (f : Data → Option X) (front : List X) (vs : List Value) (i : ℕ) (v : Value) → i < length vs → v ≡ get_or vs i v → f (view v) ≡ None →
+list_none : {A X : Type 0} (f : Data → Option X) (front : List X) (vs : List (Value A)) (i : ℕ) (v : Value A) → i < length vs → v ≡ get_or vs i v → f (view v) ≡ None →
     behind front (list_of f (items_view (drop i vs))) ≡ None
-list_none {X} f front vs i v h e r =
+list_none {A} {X} f front vs i v h e r =
     ap (behind front) (list_of-drop f vs i v h e ∙ ap (λ (o : Option X). o >>= λ y. list_of f (items_view (drop (i + 1) vs)) >>= λ ys. Some (y ∷ ys)) r)
 
 -- an item that was not read
-pub list_fail : {X : Type 0} (f : Data → Option X) (error : ReadError) (front : List X) (vs : List Value) (i : ℕ) (v : Value) → i < length vs → v ≡ get_or vs i v →
+pub list_fail : {A X : Type 0} (f : Data → Option X) (error : ReadError) (front : List X) (vs : List (Value A)) (i : ℕ) (v : Value A) → i < length vs → v ≡ get_or vs i v →
     behind front (list_of f (items_view (drop i vs))) ≡ list_of f (items_view vs) → Fails error (f (view v)) → Fails error (list_of f (items_view vs))
-list_fail f Memory front vs i v h e w r = tt
-list_fail f Refused front vs i v h e w r = sym w ∙ list_none f front vs i v h e r
+list_fail {A} f Memory front vs i v h e w r = tt
+list_fail {A} f Refused front vs i v h e w r = sym w ∙ list_none f front vs i v h e r
 
-pub list_of-end : {X : Type 0} (f : Data → Option X) (vs : List Value) (i : ℕ) → length vs ≤ i → list_of f (items_view (drop i vs)) ≡ Some []
-list_of-end f vs i h = ap (λ (l : List Value). list_of f (items_view l)) (drop_all i vs h) ∙ list_of-nil f
+pub list_of-end : {A X : Type 0} (f : Data → Option X) (vs : List (Value A)) (i : ℕ) → length vs ≤ i → list_of f (items_view (drop i vs)) ≡ Some []
+unfolding items_view view
+list_of-end {A} f vs i h = ap (λ (l : List (Value A)). list_of f (items_view l)) (drop_all i vs h) ∙ list_of-nil f
 
 -- no item more
-pub list_end : {X : Type 0} (f : Data → Option X) (front : List X) (vs : List Value) (i : ℕ) → length vs ≤ i → behind front (list_of f (items_view (drop i vs))) ≡ Some front
-list_end {X} f front vs i h =
-    ap (λ (l : List Value). behind front (list_of f (items_view l))) (drop_all i vs h) ∙ ap (behind front) (list_of-nil f) ∙ ap (λ (l : List X). Some l) (append-nil front)
+pub list_end : {A X : Type 0} (f : Data → Option X) (front : List X) (vs : List (Value A)) (i : ℕ) → length vs ≤ i → behind front (list_of f (items_view (drop i vs))) ≡ Some front
+unfolding items_view view
+list_end {A} {X} f front vs i h =
+    ap (λ (l : List (Value A)). behind front (list_of f (items_view l))) (drop_all i vs h) ∙ ap (behind front) (list_of-nil f) ∙ ap (λ (l : List X). Some l) (append-nil front)
 
 pub ruleset list_reading = (behind-nil, list_more, list_fail, list_end)

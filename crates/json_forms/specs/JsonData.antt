@@ -2,8 +2,8 @@
 use Rattle.std.specs.Prelude.{List, map}
 use Rattle.serde_json.specs.Data.{Data}
 use Rattle.serde_json.specs.View.{view}
-use Rattle.json_forms.specs.declared.json.Json.{Json}
-use Rattle.json_forms.specs.declared.json.Row.{Row}
+use Rattle.json_forms.specs.declared.printing.Json.{Json}
+use Rattle.json_forms.specs.declared.printing.Row.{Row}
 
 abbrev pub data_of : Json → Data
 data_of j = view j.value

@@ -1,4 +1,6 @@
 pub mod JsonData
+pub mod View
+pub mod Bytes
 pub mod Reading
 pub mod Tuples
 pub mod Plain

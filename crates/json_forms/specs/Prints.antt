@@ -1,5 +1,5 @@
 -- What stands in JSON for numbers, texts, bytes, lists and what may be absent.
-use Rattle.std.specs.Prelude.{ℕ, List, ◌∷◌, [], Bool, ◌&&◌, Option, Some, None, map, codes, nat_le, ◌==◌, ◌||◌, if◌then◌else◌}
+use Rattle.std.specs.Prelude.{ℕ, List, Bool, ◌&&◌, Option, Some, None, map, codes, nat_le, ◌==◌, ◌||◌, if◌then◌else◌}
 use Rattle.std.specs.List.{list_all}
 use Rattle.hex.specs.Hex.{encode_lower}
 use Rattle.serde_json.specs.Data.{Data, null, number, string, array, object, unsigned, no_members, member}

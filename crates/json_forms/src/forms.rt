@@ -3,7 +3,7 @@ ghost use Rattle.std.specs.Prelude.{◌≡◌, IfOk, Bool, true, false, map};
 ghost use Rattle.std.specs.List.{list_all};
 ghost use Rattle.serde_json.specs.Data.{string};
 ghost use Rattle.serde_json.specs.Find.{as_str};
-ghost use Rattle.serde_json.specs.View.{view, items_view, members_view};
+ghost use Rattle.json_forms.specs.View.{view, items_view, members_view};
 ghost use Rattle.json_forms.specs.JsonData.{data_of};
 ghost use Rattle.json_forms.specs.Reading.{Reads, Gives};
 ghost use Rattle.json_forms.specs.Forms.{says, first_says, starts, word_at, tagged_at, optional_at};
@@ -13,9 +13,10 @@ ghost use Rattle.json_forms.specs.Lists.{list_of};
 ghost use Rattle.json_forms.specs.Plain.{number_at};
 ghost use Rattle.json_forms.specs.Prints.{num, null_or, texts, is_shown, blob_data};
 
-use crate::{Json, ReadError, Row, read};
+use crate::members::has_members;
+use crate::read::{Item, Member};
+use crate::{Json, ReadError, Row, Value, read};
 use hex::FromHexError;
-use serde_json::{Map, Value};
 use smithy_types::{Blob, List, OutOfMemory, Text};
 use std::alloc::Global;
 
@@ -108,18 +109,18 @@ fn print_shown(alloc: Global, bytes: &[u8]) -> Result<Json, OutOfMemory>
 }
 
 /// Whether the text is this word.
-#[tactic(auto, unfolding(crate::specs::Forms::says))]
+#[tactic(auto, unfolding(crate::specs::Forms::says, crate::specs::View::view))]
 pub fn says(word: &str, value: &Value) -> bool
     ensures { result ≡ says word.now (view value.now) }
 {
     match value {
-        Value::String(text) => text.as_str() == word,
+        Value::String(text) => *text == word,
         _ => false,
     }
 }
 
 /// Whether the array begins with this word.
-#[tactic(auto, unfolding(crate::specs::Forms::starts))]
+#[tactic(auto, unfolding(crate::specs::Forms::starts, crate::specs::View::view, crate::specs::View::items_view))]
 pub fn starts(word: &str, value: &Value) -> bool
     ensures { result ≡ starts word.now (view value.now) }
 {
@@ -129,7 +130,7 @@ pub fn starts(word: &str, value: &Value) -> bool
     }
 }
 
-#[tactic(auto, unfolding(crate::specs::Forms::first_says))]
+#[tactic(auto, unfolding(crate::specs::Forms::first_says, crate::specs::View::view, crate::specs::View::items_view))]
 fn first_says(word: &str, items: &[Value]) -> bool
     ensures { result ≡ first_says word.now (items_view items.now) }
 {
@@ -154,7 +155,7 @@ pub fn read_word(word: &str, value: &Value) -> Result<(), ReadError>
 
 /// What stands beside the tag in an array of two.
 #[tactic(auto, unfolding(crate::specs::Forms::tagged_at))]
-pub fn read_tagged<'v>(tag: &str, value: &'v Value) -> Result<&'v Value, ReadError>
+pub fn read_tagged<'v, 't>(tag: &str, value: &'v Value<'t>) -> Result<Item<'v, 't>, ReadError>
     ensures { Gives (λ v. view v.now) result (tagged_at tag.now (view value.now)) }
 {
     let (found, inner) = read::pair(value)?;
@@ -175,7 +176,7 @@ pub fn read_true(value: &Value) -> Result<(), ReadError>
 }
 
 /// A number, or null.
-#[tactic(auto, unfolding(crate::specs::Forms::optional_at))]
+#[tactic(auto, unfolding(crate::specs::Forms::optional_at, crate::specs::View::view))]
 pub fn read_optional_number(value: &Value) -> Result<Option<u64>, ReadError>
     ensures { Reads result (optional_at number_at (view value.now)) }
 {
@@ -186,7 +187,7 @@ pub fn read_optional_number(value: &Value) -> Result<Option<u64>, ReadError>
 }
 
 /// A text, or null.
-#[tactic(auto, unfolding(crate::specs::Forms::optional_at))]
+#[tactic(auto, unfolding(crate::specs::Forms::optional_at, crate::specs::View::view))]
 pub fn read_optional_text(alloc: Global, value: &Value) -> Result<Option<Text>, ReadError>
     ensures { Reads result (optional_at as_str (view value.now)) }
 {
@@ -219,7 +220,7 @@ fn text_items(alloc: Global, items: &[Value]) -> Result<List<Text>, ReadError>
 }
 
 /// A list of texts, or null.
-#[tactic(auto, unfolding(crate::specs::Forms::optional_at))]
+#[tactic(auto, unfolding(crate::specs::Forms::optional_at, crate::specs::View::view))]
 pub fn read_optional_texts(alloc: Global, value: &Value) -> Result<Option<List<Text>>, ReadError>
     ensures { Reads result (optional_at texts_at (view value.now)) }
 {
@@ -259,12 +260,12 @@ fn hex_bytes(alloc: Global, text: &str) -> Result<Vec<u8>, ReadError>
 }
 
 /// A blob: a text, or an object with the bytes in hex.
-#[tactic(auto, unfolding(crate::specs::Forms::blob_at))]
+#[tactic(auto, unfolding(crate::specs::Forms::blob_at, crate::specs::View::view))]
 pub fn read_blob(alloc: Global, value: &Value) -> Result<Blob, ReadError>
     ensures { Reads result (blob_at (view value.now)) }
 {
     match value {
-        Value::String(text) => Ok(Blob::from_slice(alloc, text.as_str().as_bytes())?),
+        Value::String(text) => Ok(Blob::from_slice(alloc, text.as_bytes())?),
         _ => read_hex(alloc, value),
     }
 }
@@ -273,26 +274,22 @@ pub fn read_blob(alloc: Global, value: &Value) -> Result<Blob, ReadError>
 fn read_hex(alloc: Global, value: &Value) -> Result<Blob, ReadError>
     ensures { Reads result (hex_at (view value.now)) }
 {
-    only_member(value)?;
+    only_member(alloc, value)?;
     let text = read::str(read::member(value, "hex")?)?;
     Ok(Blob::from_vec(hex_bytes(alloc, text)?)?)
 }
 
 #[tactic(auto, unfolding(crate::specs::Forms::only_at))]
-fn only_member(value: &Value) -> Result<(), ReadError>
+fn only_member(alloc: Global, value: &Value) -> Result<(), ReadError>
     ensures { Reads result (only_at (view value.now)) }
 {
-    match value.as_object() {
-        Some(members) => one_member(members),
-        None => Err(ReadError::Refused),
-    }
+    one_member(alloc, read::members(value)?)
 }
 
-#[tactic(auto, using(crate::proofs::Members::counted))]
-fn one_member(members: &Map<String, Value>) -> Result<(), ReadError>
-    ensures { Reads result (one_member (members_view members.now.entries)) }
+fn one_member(alloc: Global, members: &[Member]) -> Result<(), ReadError>
+    ensures { Reads result (one_member (members_view members.now)) }
 {
-    if members.len() == 1 {
+    if has_members(alloc, 1, members)? {
         Ok(())
     } else {
         Err(ReadError::Refused)

@@ -2,10 +2,14 @@
 //! read. What is printed of a thing is read as the same thing.
 #![tactic(auto)]
 
+pub mod arena;
 pub mod forms;
-pub mod json;
 pub mod lists;
+pub mod members;
+mod numbers;
+pub mod printing;
 pub mod read;
 
-pub use json::{Json, Row};
+pub use crate::printing::{Json, Row};
+pub use arena::{Arena, Value};
 pub use read::ReadError;

@@ -3,13 +3,12 @@ ghost use Rattle.std.specs.Prelude.{◌≡◌, ◌++◌, ◌∷◌, [], true, no
 ghost use Rattle.std.specs.Cmp.Lexicographic.{pointwise};
 ghost use Rattle.std.specs.List.{list_any};
 ghost use Rattle.json_forms.specs.declared.read.ReadError.TheVariants.{Memory};
-ghost use Rattle.serde_json.specs.View.{view, items_view};
+ghost use Rattle.json_forms.specs.View.{view, items_view};
 ghost use Rattle.json_forms.specs.Reading.{Reads, Gives};
 ghost use Rattle.json_forms.specs.Lists.{name_at, named_once};
 
-use crate::{ReadError, read};
+use crate::{ReadError, Value, read};
 use indexmap::IndexSet;
-use serde_json::Value;
 use std::alloc::Global;
 use std::marker::Model;
 
@@ -70,7 +69,7 @@ pub fn named_once(alloc: Global, items: &[Value]) -> Result<(), ReadError>
 
 // The name that a pair begins with.
 #[tactic(auto, unfolding(crate::specs::Lists::name_at))]
-fn name_in(value: &Value) -> Result<&str, ReadError>
+fn name_in<'t>(value: &Value<'t>) -> Result<&'t str, ReadError>
     ensures { Gives (λ s. s.now) result (name_at (view value.now)) }
 {
     let (name, _) = read::pair(value)?;

@@ -1,16 +1,22 @@
 //! Reading of plain JSON: numbers, texts and arrays of a fixed length.
-ghost use Rattle.std.specs.Prelude.{◌≡◌, ◌^◌};
-ghost use Rattle.serde_json.specs.Errors.{IsMemory};
-ghost use Rattle.serde_json.specs.Find.{as_array, as_bool, as_str, get};
-ghost use Rattle.serde_json.specs.View.{view, items_view};
+ghost use Rattle.std.specs.Prelude.{◌≡◌, ◌^◌, option_map};
+ghost use Rattle.serde_json.specs.Find.{as_array, as_bool, as_object, as_str, as_u64, get};
+ghost use Rattle.json_forms.specs.View.{number_view, view, items_view, members_view};
 ghost use Rattle.json_forms.specs.Plain.{number_at, number_below, pair_at, triple_at, quadruple_at};
 ghost use Rattle.json_forms.specs.Plain.{quintuple_at, sextuple_at, septuple_at};
 ghost use Rattle.json_forms.specs.Reading.{Reads, Gives};
 ghost use Rattle.json_forms.specs.Tuples.{two_of, three_of, four_of, five_of, six_of, seven_of};
 
-use serde_json::{Error, Value};
+use crate::Value;
+use crate::numbers::unsigned;
 use smithy_types::{OutOfMemory, Text};
 use std::alloc::{AllocError, AllocFailed, Global};
+
+/// A member of an object: its name and its value.
+pub type Member<'t> = (&'t str, Value<'t>);
+
+/// A value that stands in another one.
+pub type Item<'v, 't> = &'v Value<'t>;
 
 /// Why a value was not read.
 #[derive(Clone, Copy, Debug, PartialEq, Eq)]
@@ -51,22 +57,22 @@ impl From<OutOfMemory> for ReadError {
     }
 }
 
-/// Why a text was not read as JSON.
-pub fn refusal(error: &Error) -> ReadError
-    ensures { result ≡ ReadError.Refused → ¬ (IsMemory error.now) }
-{
-    if error.is_memory() {
-        ReadError::Memory
-    } else {
-        ReadError::Refused
-    }
-}
-
 /// A whole number.
+#[tactic(auto, unfolding(crate::specs::View::view))]
 pub fn number(value: &Value) -> Result<u64, ReadError>
     ensures { Reads result (number_at (view value.now)) }
 {
-    match value.as_u64() {
+    match value.as_number() {
+        Some(text) => whole_number(text),
+        None => Err(ReadError::Refused),
+    }
+}
+
+// The whole number that the text is.
+fn whole_number(text: &str) -> Result<u64, ReadError>
+    ensures { Reads result (as_u64 (number_view text.now)) }
+{
+    match unsigned(text) {
         Some(number) => Ok(number),
         None => Err(ReadError::Refused),
     }
@@ -97,6 +103,7 @@ pub fn number_16(value: &Value) -> Result<u16, ReadError>
 }
 
 /// A truth value.
+#[tactic(auto, unfolding(crate::specs::View::view))]
 pub fn boolean(value: &Value) -> Result<bool, ReadError>
     ensures { Reads result (as_bool (view value.now)) }
 {
@@ -107,7 +114,8 @@ pub fn boolean(value: &Value) -> Result<bool, ReadError>
 }
 
 /// A text, as it stands in the value.
-pub fn str(value: &Value) -> Result<&str, ReadError>
+#[tactic(auto, unfolding(crate::specs::View::view))]
+pub fn str<'t>(value: &Value<'t>) -> Result<&'t str, ReadError>
     ensures { Gives (λ s. s.now) result (as_str (view value.now)) }
 {
     match value.as_str() {
@@ -124,24 +132,38 @@ pub fn text(alloc: Global, value: &Value) -> Result<Text, ReadError>
 }
 
 /// The items of an array.
-pub fn items(value: &Value) -> Result<&[Value], ReadError>
+#[tactic(auto, unfolding(crate::specs::View::view, crate::specs::View::items_view))]
+pub fn items<'v, 't>(value: Item<'v, 't>) -> Result<&'v [Value<'t>], ReadError>
     ensures { Gives (λ s. items_view s.now) result (as_array (view value.now)) }
 {
-    match value.as_array() {
-        Some(items) => Ok(items.as_slice()),
-        None => Err(ReadError::Refused),
+    match value {
+        Value::Array(items) => Ok(items.as_slice()),
+        _ => Err(ReadError::Refused),
+    }
+}
+
+/// The members of an object, as they stand in the text.
+#[tactic(auto, unfolding(crate::specs::View::view, crate::specs::View::members_view))]
+pub fn members<'v, 't>(value: &'v Value<'t>) -> Result<&'v [Member<'t>], ReadError>
+    ensures { Gives (λ s. members_view s.now) result (as_object (view value.now)) }
+{
+    match value {
+        Value::Object(members) => Ok(members.as_slice()),
+        _ => Err(ReadError::Refused),
     }
 }
 
 /// The items of an array of two.
-pub fn pair(value: &Value) -> Result<(&Value, &Value), ReadError>
+pub fn pair<'v, 't>(value: &'v Value<'t>) -> Result<(Item<'v, 't>, Item<'v, 't>), ReadError>
     ensures { Gives (λ p. (view p.0.now, view p.1.now)) result (pair_at (view value.now)) }
 {
     two(items(value)?)
 }
 
 /// The items of an array of three.
-pub fn triple(value: &Value) -> Result<(&Value, &Value, &Value), ReadError>
+pub fn triple<'v, 't>(
+    value: &'v Value<'t>,
+) -> Result<(Item<'v, 't>, Item<'v, 't>, Item<'v, 't>), ReadError>
     ensures { Gives (λ p. (view p.0.now, view p.1.now, view p.2.now)) result
         (triple_at (view value.now)) }
 {
@@ -149,7 +171,9 @@ pub fn triple(value: &Value) -> Result<(&Value, &Value, &Value), ReadError>
 }
 
 /// The items of an array of four.
-pub fn quadruple(value: &Value) -> Result<(&Value, &Value, &Value, &Value), ReadError>
+pub fn quadruple<'v, 't>(
+    value: &'v Value<'t>,
+) -> Result<(Item<'v, 't>, Item<'v, 't>, Item<'v, 't>, Item<'v, 't>), ReadError>
     ensures { Gives (λ p. (view p.0.now, view p.1.now, view p.2.now, view p.3.now)) result
         (quadruple_at (view value.now)) }
 {
@@ -157,8 +181,8 @@ pub fn quadruple(value: &Value) -> Result<(&Value, &Value, &Value, &Value), Read
 }
 
 /// Two items.
-#[tactic(auto, using(crate::proofs::OtherLength::not_two))]
-pub fn two(items: &[Value]) -> Result<(&Value, &Value), ReadError>
+#[tactic(auto, using(crate::proofs::OtherLength::not_two), unfolding(crate::specs::View::view, crate::specs::View::items_view))]
+pub fn two<'v, 't>(items: &'v [Value<'t>]) -> Result<(Item<'v, 't>, Item<'v, 't>), ReadError>
     ensures { Gives (λ p. (view p.0.now, view p.1.now)) result (two_of (items_view items.now)) }
 {
     if items.len() != 2 {
@@ -168,8 +192,10 @@ pub fn two(items: &[Value]) -> Result<(&Value, &Value), ReadError>
 }
 
 /// Three items.
-#[tactic(auto, using(crate::proofs::OtherLength::not_three))]
-pub fn three(items: &[Value]) -> Result<(&Value, &Value, &Value), ReadError>
+#[tactic(auto, using(crate::proofs::OtherLength::not_three), unfolding(crate::specs::View::view, crate::specs::View::items_view))]
+pub fn three<'v, 't>(
+    items: &'v [Value<'t>],
+) -> Result<(Item<'v, 't>, Item<'v, 't>, Item<'v, 't>), ReadError>
     ensures { Gives (λ p. (view p.0.now, view p.1.now, view p.2.now)) result
         (three_of (items_view items.now)) }
 {
@@ -180,8 +206,10 @@ pub fn three(items: &[Value]) -> Result<(&Value, &Value, &Value), ReadError>
 }
 
 /// Four items.
-#[tactic(auto, using(crate::proofs::OtherLength::not_four))]
-pub fn four(items: &[Value]) -> Result<(&Value, &Value, &Value, &Value), ReadError>
+#[tactic(auto, using(crate::proofs::OtherLength::not_four), unfolding(crate::specs::View::view, crate::specs::View::items_view))]
+pub fn four<'v, 't>(
+    items: &'v [Value<'t>],
+) -> Result<(Item<'v, 't>, Item<'v, 't>, Item<'v, 't>, Item<'v, 't>), ReadError>
     ensures { Gives (λ p. (view p.0.now, view p.1.now, view p.2.now, view p.3.now)) result
         (four_of (items_view items.now)) }
 {
@@ -192,7 +220,18 @@ pub fn four(items: &[Value]) -> Result<(&Value, &Value, &Value, &Value), ReadErr
 }
 
 /// The items of an array of five.
-pub fn quintuple(value: &Value) -> Result<(&Value, &Value, &Value, &Value, &Value), ReadError>
+pub fn quintuple<'v, 't>(
+    value: &'v Value<'t>,
+) -> Result<
+    (
+        Item<'v, 't>,
+        Item<'v, 't>,
+        Item<'v, 't>,
+        Item<'v, 't>,
+        Item<'v, 't>,
+    ),
+    ReadError,
+>
     ensures { Gives (λ p. (view p.0.now, view p.1.now, view p.2.now, view p.3.now, view p.4.now))
         result (quintuple_at (view value.now)) }
 {
@@ -200,8 +239,19 @@ pub fn quintuple(value: &Value) -> Result<(&Value, &Value, &Value, &Value, &Valu
 }
 
 /// Five items.
-#[tactic(auto, using(crate::proofs::OtherLength::not_five))]
-pub fn five(items: &[Value]) -> Result<(&Value, &Value, &Value, &Value, &Value), ReadError>
+#[tactic(auto, using(crate::proofs::OtherLength::not_five), unfolding(crate::specs::View::view, crate::specs::View::items_view))]
+pub fn five<'v, 't>(
+    items: &'v [Value<'t>],
+) -> Result<
+    (
+        Item<'v, 't>,
+        Item<'v, 't>,
+        Item<'v, 't>,
+        Item<'v, 't>,
+        Item<'v, 't>,
+    ),
+    ReadError,
+>
     ensures { Gives (λ p. (view p.0.now, view p.1.now, view p.2.now, view p.3.now, view p.4.now))
         result (five_of (items_view items.now)) }
 {
@@ -212,9 +262,19 @@ pub fn five(items: &[Value]) -> Result<(&Value, &Value, &Value, &Value, &Value),
 }
 
 /// The items of an array of six.
-pub fn sextuple(
-    value: &Value,
-) -> Result<(&Value, &Value, &Value, &Value, &Value, &Value), ReadError>
+pub fn sextuple<'v, 't>(
+    value: &'v Value<'t>,
+) -> Result<
+    (
+        Item<'v, 't>,
+        Item<'v, 't>,
+        Item<'v, 't>,
+        Item<'v, 't>,
+        Item<'v, 't>,
+        Item<'v, 't>,
+    ),
+    ReadError,
+>
     ensures { Gives (λ p. (
       view p.0.now,
       view p.1.now,
@@ -228,8 +288,20 @@ pub fn sextuple(
 }
 
 /// Six items.
-#[tactic(auto, using(crate::proofs::OtherLength::not_six))]
-pub fn six(items: &[Value]) -> Result<(&Value, &Value, &Value, &Value, &Value, &Value), ReadError>
+#[tactic(auto, using(crate::proofs::OtherLength::not_six), unfolding(crate::specs::View::view, crate::specs::View::items_view))]
+pub fn six<'v, 't>(
+    items: &'v [Value<'t>],
+) -> Result<
+    (
+        Item<'v, 't>,
+        Item<'v, 't>,
+        Item<'v, 't>,
+        Item<'v, 't>,
+        Item<'v, 't>,
+        Item<'v, 't>,
+    ),
+    ReadError,
+>
     ensures { Gives (λ p. (
       view p.0.now,
       view p.1.now,
@@ -248,9 +320,20 @@ pub fn six(items: &[Value]) -> Result<(&Value, &Value, &Value, &Value, &Value, &
 }
 
 /// The items of an array of seven.
-pub fn septuple(
-    value: &Value,
-) -> Result<(&Value, &Value, &Value, &Value, &Value, &Value, &Value), ReadError>
+pub fn septuple<'v, 't>(
+    value: &'v Value<'t>,
+) -> Result<
+    (
+        Item<'v, 't>,
+        Item<'v, 't>,
+        Item<'v, 't>,
+        Item<'v, 't>,
+        Item<'v, 't>,
+        Item<'v, 't>,
+        Item<'v, 't>,
+    ),
+    ReadError,
+>
     ensures { Gives (λ p. (
       view p.0.now,
       view p.1.now,
@@ -265,10 +348,21 @@ pub fn septuple(
 }
 
 /// Seven items.
-#[tactic(auto, using(crate::proofs::OtherLength::not_seven))]
-pub fn seven(
-    items: &[Value],
-) -> Result<(&Value, &Value, &Value, &Value, &Value, &Value, &Value), ReadError>
+#[tactic(auto, using(crate::proofs::OtherLength::not_seven), unfolding(crate::specs::View::view, crate::specs::View::items_view))]
+pub fn seven<'v, 't>(
+    items: &'v [Value<'t>],
+) -> Result<
+    (
+        Item<'v, 't>,
+        Item<'v, 't>,
+        Item<'v, 't>,
+        Item<'v, 't>,
+        Item<'v, 't>,
+        Item<'v, 't>,
+        Item<'v, 't>,
+    ),
+    ReadError,
+>
     ensures { Gives (λ p. (
       view p.0.now,
       view p.1.now,
@@ -287,11 +381,18 @@ pub fn seven(
     ))
 }
 
+/// A member of an object, none where it has no such member.
+pub fn optional_member<'v, 't>(value: &'v Value<'t>, name: &str) -> Option<Item<'v, 't>>
+    ensures { option_map (λ v. view v.now) result ≡ get name.now (view value.now) }
+{
+    value.get(name)
+}
+
 /// A member of an object.
-pub fn member<'v>(value: &'v Value, name: &str) -> Result<&'v Value, ReadError>
+pub fn member<'v, 't>(value: &'v Value<'t>, name: &str) -> Result<Item<'v, 't>, ReadError>
     ensures { Gives (λ v. view v.now) result (get name.now (view value.now)) }
 {
-    match value.get(name) {
+    match optional_member(value, name) {
         Some(value) => Ok(value),
         None => Err(ReadError::Refused),
     }

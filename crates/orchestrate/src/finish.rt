@@ -53,8 +53,8 @@ fn failure(context: InterceptorContext) -> Result<SdkError<Payload>, OutOfMemory
     }
 }
 
-// What a view's run came to, and a copy of the response.
-fn ending(view: HookView) -> Result<(Option<Outcome>, Option<HttpResponse>), OutOfMemory>
+/// The outcome that stands in a view, and a copy of the response that it holds.
+pub fn ending(view: HookView) -> Result<(Option<Outcome>, Option<HttpResponse>), OutOfMemory>
     ensures outcome { IfOk result (λ r. r.0 ≡ view.outcome) }
     ensures response { IfOk result (λ r. r.1 ≡ view.response) }
 {
@@ -65,7 +65,8 @@ fn ending(view: HookView) -> Result<(Option<Outcome>, Option<HttpResponse>), Out
     Ok((view.outcome, response))
 }
 
-fn no_outcome() -> Fault
+/// The failure of a run in which neither an output nor a failure stands.
+pub fn no_outcome() -> Fault
     ensures { result ≡ no_outcome }
 {
     Fault {

@@ -2,7 +2,7 @@
 #![tactic(auto)]
 
 mod execution;
-mod finish;
+pub mod finish;
 mod invocation;
 pub mod laws;
 mod log;

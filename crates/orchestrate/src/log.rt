@@ -1,5 +1,5 @@
 //! How the log of a world grows.
-ghost use Rattle.std.specs.Prelude.{◌≡◌, ◌<◌, [], ◌∷◌, ◌++◌, IfOk, OnErr, vec_len, vec_capacity};
+ghost use Rattle.std.specs.Prelude.{◌≡◌, ◌<◌, [], ◌∷◌, ◌++◌, IfOk, OnErr, OnOk, vec_len, vec_capacity};
 ghost use Rattle.run_grammar.specs.Entry.{entry};
 
 use run_grammar::{Answer, Entry, Question};
@@ -7,11 +7,12 @@ use smithy_types::{List, OutOfMemory};
 use std::alloc::Global;
 use std::mem;
 
-/// Moves the entries of a log out of it, with room for one more. Where there is no memory for the
-/// room the log stays as it was.
+/// Moves the entries of a log out of it, with room for one more, and leaves it empty. Where there
+/// is no memory for the room the log stays as it was.
 pub fn with_room(alloc: Global, log: &mut List<Entry>) -> Result<Vec<Entry>, OutOfMemory>
     ensures entries { IfOk result (λ v. v.items ≡ log.old) }
     ensures room { IfOk result (λ v. vec_len v < vec_capacity v) }
+    ensures taken { OnOk result (log.new ≡ []) }
     ensures err { OnErr result (log.new ≡ log.old) }
 {
     let mut entries = mem::replace(log, List::new()).into_vec(alloc);

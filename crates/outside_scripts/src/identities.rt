@@ -1,6 +1,6 @@
 //! Readers of the sources of identities.
 ghost use Rattle.std.specs.Prelude.{◌≡◌};
-ghost use Rattle.serde_json.specs.View.{view, items_view};
+ghost use Rattle.json_forms.specs.View.{view, items_view};
 ghost use Rattle.json_forms.specs.Lists.{list_of};
 ghost use Rattle.json_forms.specs.Reading.{Reads};
 ghost use Rattle.outside_scripts.specs.Identities.{failed_identity_at, loaded_at};
@@ -8,9 +8,8 @@ ghost use Rattle.outside_scripts.specs.Identities.{identity_answer_at, identity_
 ghost use Rattle.outside_scripts.specs.Identities.{sources_at};
 
 use json_forms::forms::read_word;
-use json_forms::{ReadError, read};
+use json_forms::{ReadError, Value, read};
 use scripted::{IdentityAnswer, IdentityRecord};
-use serde_json::Value;
 use smithy_types::List;
 use std::alloc::Global;
 use value_json::http::read_identity;

@@ -1,6 +1,6 @@
 //! Readers of what comes of requests: frames, responses and failures.
 ghost use Rattle.std.specs.Prelude.{◌≡◌};
-ghost use Rattle.serde_json.specs.View.{view, items_view};
+ghost use Rattle.json_forms.specs.View.{view, items_view};
 ghost use Rattle.json_forms.specs.Lists.{list_of};
 ghost use Rattle.json_forms.specs.Reading.{Reads};
 ghost use Rattle.outside_scripts.specs.Responses.{frame_at, frames_at, failed_record_at};
@@ -8,9 +8,8 @@ ghost use Rattle.outside_scripts.specs.Responses.{may_repeat, response_at, answe
 ghost use Rattle.outside_scripts.specs.Responses.{response_record_at, records_at};
 
 use json_forms::forms::{read_blob, read_optional_number, read_word};
-use json_forms::{ReadError, read};
+use json_forms::{ReadError, Value, read};
 use scripted::{Frame, RecordAnswer, ResponseRecord, ScriptedResponse};
-use serde_json::Value;
 use smithy_types::List;
 use std::alloc::Global;
 use value_json::fault::read_connector_kind;

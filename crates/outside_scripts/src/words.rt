@@ -1,13 +1,12 @@
 //! The reader of the words that an outside draws.
 ghost use Rattle.std.specs.Prelude.{◌≡◌};
-ghost use Rattle.serde_json.specs.View.{view, items_view};
+ghost use Rattle.json_forms.specs.View.{view, items_view};
 ghost use Rattle.json_forms.specs.Lists.{list_of};
 ghost use Rattle.json_forms.specs.Plain.{number_at};
 ghost use Rattle.json_forms.specs.Reading.{Reads};
 ghost use Rattle.outside_scripts.specs.Words.{words_at};
 
-use json_forms::{ReadError, read};
-use serde_json::Value;
+use json_forms::{ReadError, Value, read};
 use smithy_types::List;
 use std::alloc::Global;
 

@@ -5,3 +5,4 @@ pub mod Reaching
 pub mod ToldAnswers
 pub mod ToldPrints
 pub mod Ended
+pub mod LineByLine

@@ -1,8 +1,7 @@
 -- Prints that are carried are told again.
-use Rattle.std.proofs.Common.{◌≡◌, ℕ, zero, suc, ◌+◌, ◌-◌, ◌<◌, ◌≤◌, List, [], ◌∷◌, ◌++◌, map, take, drop, length, Bool, true, false, ◌&&◌, nat_lt, Option, Some, None, option_to_list, refl, ap, ap₂, append_assoc, sym, ◌∙◌, arith}
-use Rattle.std.proofs.Math.Seq.{take-append_seam}
-use Rattle.std.proofs.lemmas.Bool.{and_parts, le-ltb}
-use Rattle.std.proofs.lemmas.List.{append-nil, length-append}
+use Rattle.std.proofs.Common.{◌≡◌, ℕ, ◌+◌, ◌-◌, List, [], ◌∷◌, ◌++◌, true, Some, None, refl, ap, ap₂, append_assoc, sym, ◌∙◌}
+use Rattle.std.proofs.lemmas.Bool.{and_parts}
+use Rattle.std.proofs.lemmas.List.{append-nil}
 use Rattle.json_back.proofs.OneByOne.{joined_lines, read_lines-lines_text}
 use Rattle.json_back.specs.Lines.{lines_text, read_lines}
 use Rattle.json_forms.specs.Forms.{word_at}
@@ -15,7 +14,7 @@ use Rattle.run_grammar.specs.declared.answer.Entry.{Entry}
 use Rattle.runcheck.specs.Print.{begin_data, ending_data, entries_data, entries_text, entry_data, line, run_data, run_text}
 use Rattle.runcheck.specs.declared.ending.Ending.{Ending}
 use Rattle.runcheck.specs.declared.head.RunHead.{RunHead}
-use Rattle.serde_json.specs.Data.{Data, string}
+use Rattle.serde_json.specs.Data.{string}
 use Rattle.serde_json.specs.View.{items_of}
 use Rattle.smithy_types.specs.declared.kinds.StopPoint.{StopPoint}
 use Rattle.smithy_types.specs.declared.kinds.StopPoint.TheVariants as stops
@@ -25,9 +24,8 @@ use Rattle.value_json.proofs.PrintedHeads.{payload_read}
 use Rattle.value_json.proofs.PrintedNames.{kind_read}
 use Rattle.run_check.specs.Carried.{IsCarried, answer_tellable, answers_tellable}
 use Rattle.run_check.specs.Follow.{call_of, calls_of}
-use Rattle.run_check.specs.Told.{IsTold, between, call_at, first_of, head_at, stop_at, told_at, told_by}
-use Rattle.run_check.specs.declared.told.Told.{Told}
-use Rattle.run_check.proofs.Between.{between_by}
+use Rattle.run_check.specs.Told.{IsTold, call_at, head_at, stop_at, told_at, told_by}
+use Rattle.run_check.proofs.Between.{between_read}
 use Rattle.run_check.proofs.ToldAnswers.{told_answer_read}
 
 -- ---- lines
@@ -53,18 +51,6 @@ calls_read n (e ∷ l) (f, g) h =
     rw (call_read n e f p.0, calls_read (n + 1) l g p.1) refl
 
 -- ---- all lines
-
-at_least_two : (b : Data) (es : List Data) (d : Data) → 2 ≤ length (b ∷ (es ++ d ∷ []))
-at_least_two b es d = omega (arith, length-append es (d ∷ []))
-
-two_fewer : (b : Data) (es : List Data) (d : Data) → length (b ∷ (es ++ d ∷ [])) - 2 ≡ length es
-two_fewer b es d = omega (arith, length-append es (d ∷ []))
-
-taken : (b : Data) (es : List Data) (d : Data) → take (length (b ∷ (es ++ d ∷ [])) - 2) (drop 1 (b ∷ (es ++ d ∷ []))) ≡ es
-taken b es d = ap (λ n. take n (es ++ d ∷ [])) (two_fewer b es d) ∙ take-append_seam es (d ∷ [])
-
-between_read : (b : Data) (es : List Data) (d : Data) → between (b ∷ (es ++ d ∷ [])) ≡ Some es
-between_read b es d = between_by (b ∷ (es ++ d ∷ [])) es (le-ltb _ _ (at_least_two b es d)) (taken b es d)
 
 told_data : (head : RunHead) (log : List Entry) (e : Ending) → EachFits log → IsCarried head log e → told_at (run_data head log e) ≡ Some (record { head = head; calls = calls_of log })
 unfolding told_at

@@ -1,18 +1,16 @@
 //! The answer of a whole run, by the context at its end. It is worked out here, without the
 //! engine.
 ghost use Rattle.std.specs.Prelude.{◌≡◌, IfOk};
-ghost use Rattle.orchestrate.specs.Finish.{no_outcome};
 ghost use Rattle.runcheck.specs.Endings.{error_ending};
 ghost use Rattle.smithy_context.specs.Failures.{sdk_error_of};
 ghost use Rattle.smithy_types.specs.declared.kinds.StopPoint.TheVariants as stops;
 ghost use Rattle.run_check.specs.Reach.{ending_at, whole_ending};
 
 use orchestrate::InvokeError;
+use orchestrate::finish::{ending, no_outcome};
 use runcheck::{Ending, RunHead};
-use smithy_context::{HookView, InterceptorContext};
-use smithy_types::{Fault, FaultKind, HttpResponse, OutOfMemory, Outcome, Phase, StopPoint, Text};
-
-const NO_OUTCOME: &'static str = "no outcome stands";
+use smithy_context::InterceptorContext;
+use smithy_types::{Fault, HttpResponse, OutOfMemory, Outcome, Phase, StopPoint};
 
 /// The answer of a whole run that ended with this context: at its end an output or an error, and
 /// at the stop point the request that stands there where no failure does.
@@ -30,7 +28,7 @@ fn at_the_end(head: &RunHead, context: InterceptorContext) -> Result<Ending, Out
     ensures { IfOk result (λ e. e ≡ ending_at stops.None head.now context) }
 {
     let phase = context.phase;
-    let (outcome, response) = what_stands(context.view)?;
+    let (outcome, response) = ending(context.view)?;
     match outcome {
         Some(Outcome::Output(output)) => Ending::of(Ok(output), head),
         Some(Outcome::Failed(fault)) => failed(head, fault, phase, response),
@@ -62,25 +60,4 @@ fn failed(
 {
     let error = InterceptorContext::sdk_error(fault, phase, response);
     Ending::of(Err(InvokeError::Sdk(error)), head)
-}
-
-// The outcome that stands, and a copy of the response that is held.
-fn what_stands(view: HookView) -> Result<(Option<Outcome>, Option<HttpResponse>), OutOfMemory>
-    ensures outcome { IfOk result (λ r. r.0 ≡ view.outcome) }
-    ensures response { IfOk result (λ r. r.1 ≡ view.response) }
-{
-    let response = match &view.response {
-        Some(response) => Some(response.get().clone()?),
-        None => None,
-    };
-    Ok((view.outcome, response))
-}
-
-fn no_outcome() -> Fault
-    ensures { result ≡ no_outcome }
-{
-    Fault {
-        kind: FaultKind::Other,
-        text: Text::from_static(NO_OUTCOME),
-    }
 }

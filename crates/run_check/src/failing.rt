@@ -2,16 +2,15 @@
 ghost use Rattle.std.specs.Prelude.{◌≡◌};
 ghost use Rattle.json_forms.specs.Reading.{Reads};
 ghost use Rattle.json_forms.specs.Forms.{named};
-ghost use Rattle.serde_json.specs.View.{view};
+ghost use Rattle.json_forms.specs.View.{view};
 ghost use Rattle.value_json.specs.Names.{all_hooks, hook_text};
 ghost use Rattle.run_check.specs.Failing.{failing_answer_at, failing_hook_at, hook_at};
 ghost use Rattle.run_check.specs.Failing.{hook_failure_at, hook_fault_at, hook_outcome_at};
 ghost use Rattle.run_check.specs.Failing.{told_answer_at};
 
 use json_forms::forms::{read_optional_text, read_tagged, read_word};
-use json_forms::{ReadError, read};
+use json_forms::{ReadError, Value, read};
 use run_grammar::{Answer, Kind};
-use serde_json::Value;
 use smithy_context::{Change, HookAnswer};
 use smithy_types::{Fault, FaultKind, Hook, Outcome, Shared};
 use std::alloc::Global;

@@ -1,19 +1,22 @@
 //! What the lines of a text tell: what a run was begun with, and its calls.
-ghost use Rattle.std.specs.Prelude.{◌≡◌, IfOk, IsErrOf, map};
-ghost use Rattle.json_back.specs.Lines.{read_lines};
+ghost use Rattle.std.specs.Prelude.{◌≡◌, IfOk, IsErrOf, Some, map};
+ghost use Rattle.std.specs.Prelude.{option_and_then, option_map, true};
+ghost use Rattle.serde_json.specs.Read.{read};
+ghost use Rattle.serde_json.specs.View.{items_of};
+ghost use Rattle.json_back.specs.Lines.{each_read};
 ghost use Rattle.json_forms.specs.Lists.{list_of};
 ghost use Rattle.json_forms.specs.Reading.{Gives, Reads};
-ghost use Rattle.serde_json.specs.View.{items_view, view};
-ghost use Rattle.run_check.specs.Told.{IsTold, between, call_at, first_of, head_at, stop_at};
+ghost use Rattle.json_forms.specs.View.{items_view, view};
+ghost use Rattle.run_check.specs.Told.{IsTold, call_at, head_at, stop_at};
 ghost use Rattle.run_check.specs.Told.{told_at, told_by, told_parts};
 
 use crate::failing::read_told_answer;
-use json_back::lines::values_of_lines;
+use json_back::lines::lines_of;
 use json_forms::forms::read_word;
-use json_forms::{ReadError, read};
+use json_forms::read::Item;
+use json_forms::{Arena, ReadError, Value, read};
 use run_grammar::{Answer, Kind, StopPoint};
 use runcheck::RunHead;
-use serde_json::Value;
 use smithy_types::List;
 use std::alloc::Global;
 use value_json::answer::read_kind;
@@ -49,43 +52,78 @@ pub fn read_told(alloc: Global, text: &[u8]) -> Result<Told, ReadError>
     }
 }
 
-#[tactic(auto, unfolding(crate::specs::Told::told_by))]
 fn told_of(alloc: Global, text: &str) -> Result<Told, ReadError>
     ensures { Reads result (told_by text.now) }
 {
-    match values_of_lines(alloc, text) {
-        Ok(values) => told_in(alloc, values.as_slice()),
-        Err(error) => Err(read::refusal(&error)),
+    let lines = lines_of(alloc, text)?;
+    told_in(alloc, lines.as_slice())
+}
+
+// What the lines tell.
+fn told_in(alloc: Global, lines: &[&str]) -> Result<Told, ReadError>
+    ensures { Reads result (option_and_then told_at
+        (each_read (map read (map (λ l. l.now) lines.now)))) }
+{
+    match lines {
+        [first, between @ .., last] => told_among(alloc, *first, between, *last),
+        _ => Err(ReadError::Refused),
     }
 }
 
-#[tactic(auto, unfolding(crate::specs::Told::told_at))]
-fn told_in(alloc: Global, lines: &[Value]) -> Result<Told, ReadError>
-    ensures { Reads result (told_at (map view lines.now)) }
+// What these lines tell. The last one is read only as JSON.
+fn told_among(alloc: Global, first: &str, between: &[&str], last: &str) -> Result<Told, ReadError>
+    ensures { Reads result (option_and_then (λ h. option_and_then (λ cs.
+        option_and_then (λ b. Some (record { head = h; calls = cs }))
+        (option_map (λ d. true) (read last.now)))
+        (option_and_then (λ ds. list_of call_at (items_of ds))
+        (each_read (map read (map (λ l. l.now) between.now)))))
+        (option_and_then head_at (read first.now))) }
 {
-    let head = read_head(alloc, first_line(lines)?)?;
-    let calls = read_calls(alloc, lines_between(lines)?)?;
+    let head = line_head(alloc, first)?;
+    let calls = line_calls(alloc, between)?;
+    check_json(alloc, last)?;
     Ok(Told { head, calls })
 }
 
-fn first_line(lines: &[Value]) -> Result<&Value, ReadError>
-    ensures { Gives (λ v. view v.now) result (first_of (map view lines.now)) }
+// Whether the line is JSON.
+fn check_json(alloc: Global, line: &str) -> Result<(), ReadError>
+    ensures { Gives (λ _. true) result (option_map (λ d. true) (read line.now)) }
 {
-    match lines {
-        [first, ..] => Ok(first),
-        [] => Err(ReadError::Refused),
-    }
+    let mut arena = Arena::new(alloc);
+    arena.read_text(line)?;
+    Ok(())
 }
 
-// The lines between the first and the last.
-#[tactic(auto, unfolding(crate::specs::Told::between))]
-fn lines_between(lines: &[Value]) -> Result<&[Value], ReadError>
-    ensures { Gives (λ s. map view s.now) result (between (map view lines.now)) }
+// What the first line tells.
+fn line_head(alloc: Global, line: &str) -> Result<RunHead, ReadError>
+    ensures { Reads result (option_and_then head_at (read line.now)) }
 {
-    if lines.len() < 2 {
-        return Err(ReadError::Refused);
+    let mut arena = Arena::new(alloc);
+    read_head(alloc, &arena.read_text(line)?)
+}
+
+// The calls of these lines, in order.
+#[tactic(auto, using(crate::proofs::LineByLine::line_reading))]
+fn line_calls(alloc: Global, lines: &[&str]) -> Result<List<Call>, ReadError>
+    ensures { Reads result (option_and_then (λ ds. list_of call_at (items_of ds))
+        (each_read (map read (map (λ l. l.now) lines.now)))) }
+{
+    let mut calls = List::new();
+    for line in lines {
+        match line_call(alloc, *line) {
+            Ok(call) => calls.push(alloc, call)?,
+            Err(error) => return Err(error),
+        }
     }
-    Ok(&lines[1..lines.len() - 1])
+    Ok(calls)
+}
+
+// The call of a line.
+fn line_call(alloc: Global, line: &str) -> Result<Call, ReadError>
+    ensures { Reads result (option_and_then call_at (read line.now)) }
+{
+    let mut arena = Arena::new(alloc);
+    read_call(alloc, &arena.read_text(line)?)
 }
 
 // What a run is begun with.
@@ -119,21 +157,6 @@ fn read_stop(value: &Value) -> Result<StopPoint, ReadError>
     }
 }
 
-// The calls of these lines, in order.
-#[tactic(auto, using(json_forms::proofs::ReadLists::list_reading))]
-fn read_calls(alloc: Global, lines: &[Value]) -> Result<List<Call>, ReadError>
-    ensures { Reads result (list_of call_at (items_view lines.now)) }
-{
-    let mut calls = List::new();
-    for value in lines {
-        match read_call(alloc, value) {
-            Ok(call) => calls.push(alloc, call)?,
-            Err(error) => return Err(error),
-        }
-    }
-    Ok(calls)
-}
-
 // The call of a line. Its number and the request that was handed on are not read.
 #[tactic(auto, unfolding(crate::specs::Told::call_at))]
 fn read_call(alloc: Global, value: &Value) -> Result<Call, ReadError>
@@ -145,7 +168,8 @@ fn read_call(alloc: Global, value: &Value) -> Result<Call, ReadError>
     Ok(Call { kind, answer })
 }
 
-fn told_parts(items: &[Value]) -> Result<(&Value, &Value), ReadError>
+#[tactic(auto, unfolding(json_forms::specs::View::view, json_forms::specs::View::items_view))]
+fn told_parts<'v, 't>(items: &'v [Value<'t>]) -> Result<(Item<'v, 't>, Item<'v, 't>), ReadError>
     ensures { Gives (λ p. (view p.0.now, view p.1.now)) result (told_parts (items_view items.now)) }
 {
     match items {

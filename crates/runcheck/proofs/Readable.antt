@@ -9,7 +9,7 @@ use Rattle.std.specs.Str.{IsUtf8}
 use Rattle.json_back.proofs.Stored.{carried_when_read}
 use Rattle.json_back.specs.Lines.{are_readable, is_readable}
 use Rattle.json_forms.specs.JsonData.{data_of}
-use Rattle.json_forms.specs.declared.json.Json.{Json}
+use Rattle.json_forms.specs.declared.printing.Json.{Json}
 use Rattle.run_grammar.specs.declared.answer.Entry.{Entry}
 use Rattle.runcheck.specs.Print.{begin_data, ending_data, entries_data, entries_text, entry_data, line, run_data, run_text}
 use Rattle.runcheck.specs.declared.ending.Ending.{Ending}

@@ -1,2 +1,3 @@
 pub mod HeadSizes
 pub mod Among
+pub mod EachNamed

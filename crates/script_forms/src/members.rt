@@ -1,36 +1,32 @@
 //! Objects that have no member beside those that are named.
 ghost use Rattle.std.specs.Prelude.{◌≡◌, map};
 ghost use Rattle.std.specs.List.{list_any};
-ghost use Rattle.serde_json.specs.View.{view, members_view};
+ghost use Rattle.json_forms.specs.View.{view, members_view};
 ghost use Rattle.script_forms.specs.Members.{is_among, is_name, members_all, only_among};
 ghost use Rattle.json_forms.specs.Reading.{Reads};
 
-use json_forms::ReadError;
-use serde_json::{Map, Value};
+use json_forms::read::{self, Member};
+use json_forms::{ReadError, Value};
 
 /// An object whose members each have one of these names. Which of them stand in it isn't asked.
 #[tactic(auto, unfolding(crate::specs::Members::only_among))]
 pub fn only_members(names: &[&str], value: &Value) -> Result<(), ReadError>
     ensures { Reads result (only_among (map (λ n. n.now) names.now) (view value.now)) }
 {
-    match value.as_object() {
-        Some(members) => {
-            if all_among(names, members) {
-                Ok(())
-            } else {
-                Err(ReadError::Refused)
-            }
-        }
-        None => Err(ReadError::Refused),
+    if all_among(names, read::members(value)?) {
+        Ok(())
+    } else {
+        Err(ReadError::Refused)
     }
 }
 
-fn all_among(names: &[&str], members: &Map<String, Value>) -> bool
+#[tactic(auto, using(crate::proofs::EachNamed::each_named))]
+fn all_among(names: &[&str], members: &[Member]) -> bool
     ensures { result ≡ members_all (is_among (map (λ n. n.now) names.now))
-        (members_view members.now.entries) }
+        (members_view members.now) }
 {
-    for (name, _) in members.iter() {
-        if !is_among(names, name.as_str()) {
+    for member in members {
+        if !is_among(names, member.0) {
             return false;
         }
     }

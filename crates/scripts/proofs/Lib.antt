@@ -1,4 +1,3 @@
 pub mod Keys
 pub mod KeyCount
-pub mod ScriptAnswers
 pub mod SpelledScripts

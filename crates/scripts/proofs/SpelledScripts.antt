@@ -12,15 +12,14 @@ use Rattle.json_forms.specs.declared.read.ReadError.{ReadError}
 use Rattle.orchestrate.specs.declared.script.ScriptAnswer.{ScriptAnswer}
 use Rattle.serde_json.specs.Data.{Data, null, boolean, number, string, array, object, Members, no_members, member}
 use Rattle.serde_json.specs.Find.{as_array, get, get_member}
-use Rattle.serde_json.specs.View.{view}
-use Rattle.serde_json.specs.declared.value.Value.{Value}
+use Rattle.json_forms.specs.Bytes as bytes
 use Rattle.value_json.specs.AnswerReadings.{answer_at, kind_at}
 use Rattle.value_json.specs.Readings.{payload_at}
 use Rattle.value_json.specs.Spellable.{answer_spellable, payload_spellable}
 use Rattle.value_json.proofs.SpelledAnswers.{answer_fits}
 use Rattle.value_json.proofs.SpelledForms.{Holds, OfBytes, array_of_bytes, held, items_of_bytes, list_spelled, members_of_bytes, of_bytes, pair_of_bytes, past, step}
 use Rattle.value_json.proofs.SpelledHeads.{payload_spelled}
-use Rattle.value_json.proofs.TextBytes.{value_of_bytes}
+use Rattle.value_json.proofs.SameBytes.{same_bytes}
 use Rattle.scripts.specs.Replay.{script_answer_at, script_at, script_members, script_spellable, stop_of}
 use Rattle.scripts.specs.declared.replay.Script.{Script}
 
@@ -71,6 +70,6 @@ script_spelled d h =
     (list_spelled (λ (a : ScriptAnswer). answer_spellable a.answer) script_answer_at script_answer_spelled))
     (λ l hl. and_from (payload_spellable i) _ hi hl)))))))
 
-pub reads_spelled : (v : Value) (r : Result Script ReadError) → Reads r (script_at (view v)) → IfOk r (λ s. script_spellable s ≡ true)
-reads_spelled v (Ok s) h = held (λ s. script_spellable s ≡ true) (script_at (view v)) s h (script_spelled (view v) (value_of_bytes v))
-reads_spelled v (Err e) h = tt
+pub reads_spelled : (d : Data) (r : Result Script ReadError) → bytes.of_bytes d ≡ true → Reads r (script_at d) → IfOk r (λ s. script_spellable s ≡ true)
+reads_spelled d (Ok s) b h = held (λ s. script_spellable s ≡ true) (script_at d) s h (script_spelled d (same_bytes d b))
+reads_spelled d (Err e) b h = tt

@@ -1,6 +1,6 @@
 //! Scripts of `replay`.
 ghost use Rattle.std.specs.Prelude.{◌≡◌, [], true, nat_le, length, IfOk, IsErrOf, option_map};
-ghost use Rattle.serde_json.specs.View.{view, items_view};
+ghost use Rattle.json_forms.specs.View.{view, items_view};
 ghost use Rattle.json_forms.specs.Lists.{list_of};
 ghost use Rattle.script_forms.specs.Members.{only_among};
 ghost use Rattle.json_forms.specs.Reading.{Gives, Reads};
@@ -10,12 +10,11 @@ ghost use Rattle.scripts.specs.Replay.{stop_at, stop_of, script_at, script_spell
 ghost use Rattle.scripts.specs.Replay.{answers_fit, keys_fit, is_within};
 
 use crate::limits::{add_keys, answer_fits};
-use json_forms::ReadError;
-use json_forms::read::{member, number, pair, refusal, str};
+use json_forms::read::{items, member, number, optional_member, pair, str};
+use json_forms::{Arena, ReadError, Value};
 use orchestrate::ScriptAnswer;
 use runcheck::RunHead;
 use script_forms::only_members;
-use serde_json::Value;
 use smithy_context::SettingKey;
 use smithy_types::{List, OutOfMemory, StopPoint};
 use std::alloc::Global;
@@ -46,25 +45,21 @@ pub fn read_script(alloc: Global, bytes: &[u8]) -> Result<Script, ReadError>
     ensures spellable { IfOk result (λ s. script_spellable s ≡ true) }
     ensures refused { IsErrOf result ReadError.Refused → (s : Script) → IsScript bytes.now s → ⊥ }
 {
-    match Value::from_slice(alloc, bytes) {
-        Ok(value) => script_in(alloc, value),
-        Err(error) => Err(refusal(&error)),
-    }
+    let mut arena = Arena::new(alloc);
+    script_in(alloc, &arena.read(bytes)?)
 }
 
-// The script of this value. Each answer's value is let go as it is read.
 #[tactic(auto, unfolding(crate::specs::Replay::script_at))]
-fn script_in(alloc: Global, mut value: Value) -> Result<Script, ReadError>
-    ensures { Reads result (script_at (view value)) }
+fn script_in(alloc: Global, value: &Value) -> Result<Script, ReadError>
+    ensures { Reads result (script_at (view value.now)) }
 {
-    only_listed(&value)?;
-    let input = read_payload(alloc, member(&value, "input")?)?;
-    let fuel = number(member(&value, "fuel")?)?;
-    let stop = stop_in(value.get("stop"))?;
-    let output_kind = number(member(&value, "output_kind")?)?;
-    let error_kind = number(member(&value, "error_kind")?)?;
-    let list = take_items(&mut value, "answers")?;
-    let answers = read_answers(alloc, list)?;
+    only_listed(value)?;
+    let input = read_payload(alloc, member(value, "input")?)?;
+    let fuel = number(member(value, "fuel")?)?;
+    let stop = stop_in(optional_member(value, "stop"))?;
+    let output_kind = number(member(value, "output_kind")?)?;
+    let error_kind = number(member(value, "error_kind")?)?;
+    let answers = read_answers(alloc, items(member(value, "answers")?)?)?;
     let head = RunHead {
         input,
         fuel,
@@ -73,26 +68,6 @@ fn script_in(alloc: Global, mut value: Value) -> Result<Script, ReadError>
         error_kind,
     };
     Ok(Script { head, answers })
-}
-
-// The items of an array that is a member, which are moved out.
-fn take_items(value: &mut Value, name: &str) -> Result<Vec<Value>, ReadError>
-    ensures { Gives (λ v. items_view v.items) result (items_at name.now (view value.old)) }
-{
-    match take_member(value, name)? {
-        Value::Array(items) => Ok(items),
-        _ => Err(ReadError::Refused),
-    }
-}
-
-// A member, which is moved out.
-fn take_member(value: &mut Value, name: &str) -> Result<Value, ReadError>
-    ensures { Gives view result (get name.now (view value.old)) }
-{
-    match value.get_mut(name) {
-        Some(found) => Ok(found.take()),
-        None => Err(ReadError::Refused),
-    }
 }
 
 // The stop point, none where it is left out.
@@ -133,13 +108,14 @@ fn only_listed(value: &Value) -> Result<(), ReadError>
     )
 }
 
-// The answers, in their order. Each value is let go when it is read.
-fn read_answers(alloc: Global, list: Vec<Value>) -> Result<List<ScriptAnswer>, ReadError>
-    ensures { Reads result (list_of script_answer_at (items_view list.items)) }
+// The answers, in their order.
+#[tactic(auto, using(json_forms::proofs::ReadLists::list_reading))]
+fn read_answers(alloc: Global, list: &[Value]) -> Result<List<ScriptAnswer>, ReadError>
+    ensures { Reads result (list_of script_answer_at (items_view list.now)) }
 {
     let mut answers = List::new();
     for value in list {
-        match script_answer(alloc, &value) {
+        match script_answer(alloc, value) {
             Ok(answer) => answers.push(alloc, answer)?,
             Err(error) => return Err(error),
         }

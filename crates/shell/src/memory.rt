@@ -6,7 +6,7 @@ ghost use Rattle.std.specs.Io.Cursor.{cursor_inner, cursor_position};
 ghost use Rattle.shell.specs.Source.{Reads};
 ghost use Rattle.shell.specs.Sink.{Writes};
 ghost use Rattle.shell.specs.Memory.{is_listed, sure_source_view, source_view, sink_view};
-ghost use Rattle.shell.specs.Memory.{sure_view};
+ghost use Rattle.shell.specs.Memory.{sure_view, counted, faults_read, faults_written};
 
 use crate::sink::{Sink, Wrote};
 use crate::source::{Got, Source};
@@ -103,6 +103,8 @@ impl Source for MemorySource {
         ensures failed { result ≡ Got.Failed →
             is_listed self.old.calls self.old.failing.items ≡ true }
         ensures failing { self.new.failing ≡ self.old.failing }
+        ensures calls { self.new.calls ≡ counted self.old.calls }
+        ensures faults { self.new.faults ≡ faults_read self.old.faults result }
     {
         let call = self.calls;
         self.calls = call.saturating_add(1);
@@ -162,7 +164,10 @@ impl Sink for MemorySink {
         ensures failed { result ≡ Wrote.Failed →
             (is_listed self.old.calls self.old.failing.items ≡ true)
             ⊎ (vec_capacity self.old.bytes < vec_len self.old.bytes + length piece.now) }
+        ensures whole { result ≢ Wrote.Failed → result ≡ Wrote.Took (length piece.now) }
         ensures failing { self.new.failing ≡ self.old.failing }
+        ensures calls { self.new.calls ≡ counted self.old.calls }
+        ensures faults { self.new.faults ≡ faults_written self.old.faults result }
     {
         let number = self.calls;
         self.calls = number.saturating_add(1);

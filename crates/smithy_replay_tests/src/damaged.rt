@@ -1,7 +1,7 @@
 //! Damaged scripts, and scripts at their limits.
 
 use crate::support;
-use serde_json::Value;
+use json_forms::{Arena, Value};
 use shell::status::Status;
 use std::alloc::Global;
 use std::sync::Wait;
@@ -358,9 +358,9 @@ const PRINTED: [(&str, &str); 40] = [
 
 // Whether an answer to a question of this kind is printed as the text that it was read from.
 fn prints_back(alloc: Global, kind: &str, text: &str) -> Result<bool, Fail> {
-    let name = Value::String(String::from_str(alloc, kind)?);
-    let value = Value::from_str(alloc, text)?;
-    let kind = read_kind(&name)?;
+    let mut arena = Arena::new(alloc);
+    let value = arena.read_text(text)?;
+    let kind = read_kind(&Value::String(kind))?;
     let answer = read_answer(alloc, kind, &value)?;
     let mut out = Vec::new(alloc);
     print_answer(alloc, &answer)?.write_line(alloc, &mut out)?;

@@ -2,8 +2,8 @@
 use Rattle.std.proofs.Common.{◌≡◌, ℕ, zero, suc, ◌+◌, ◌-◌, ◌<◌, ◌≤◌, List, [], ◌∷◌, length, drop, take, Bool, true, false, nat_lt, if◌then◌else◌, get_or, Option, Some, None, refl, arith, ap, ◌∙◌, sym}
 use Rattle.http_header.specs.FieldValue.{FieldValue}
 use Rattle.http_header.specs.HeaderMap.{Entries, append, append_all}
-use Rattle.serde_json.specs.View.{view, items_view}
-use Rattle.serde_json.specs.declared.value.Value.{Value}
+use Rattle.json_forms.specs.View.{view, items_view}
+use Rattle.json.specs.declared.value.Value.{Value}
 use Rattle.value_json.specs.Readings.{put_within, Header, header_at, header_items}
 use Rattle.json_forms.specs.Lists.{list_of}
 use Rattle.json_forms.specs.Reading.{◌>>=◌, Fails}
@@ -21,7 +21,7 @@ unfolding headers_behind
 by_reading None = refl
 by_reading (Some hs) = refl
 
-pub header_items-behind : (vs : List Value) → headers_behind [] 24576 (list_of header_at (items_view vs)) ≡ header_items (items_view vs)
+pub header_items-behind : {A : Type 0} (vs : List (Value A)) → headers_behind [] 24576 (list_of header_at (items_view vs)) ≡ header_items (items_view vs)
 header_items-behind vs = sym (by_reading (list_of header_at (items_view vs)))
 
 behind-kept : (m : Entries FieldValue) (n k : ℕ) (h : Header) (o : Option (List Header)) → n ≡ suc k → headers_behind m n (o >>= λ hs. Some (h ∷ hs)) ≡ headers_behind (append m h.0 h.1) k o
@@ -34,7 +34,7 @@ unfolding headers_behind
 behind-over m n k h None e f = refl
 behind-over m n k h (Some hs) e f = rw (e, f) refl
 
-step : (m : Entries FieldValue) (n : ℕ) (vs : List Value) (i : ℕ) (v : Value) (h : Header) → i < length vs → v ≡ get_or vs i v → header_at (view v) ≡ Some h →
+step : {A : Type 0} (m : Entries FieldValue) (n : ℕ) (vs : List (Value A)) (i : ℕ) (v : Value A) (h : Header) → i < length vs → v ≡ get_or vs i v → header_at (view v) ≡ Some h →
     headers_behind m n (list_of header_at (items_view (drop i vs))) ≡ headers_behind m n (list_of header_at (items_view (drop (i + 1) vs)) >>= λ hs. Some (h ∷ hs))
 step m n vs i v h a e r =
     ap (headers_behind m n) (list_of-drop header_at vs i v a e ∙ ap (λ (o : Option Header). o >>= λ x. list_of header_at (items_view (drop (i + 1) vs)) >>= λ xs. Some (x ∷ xs)) r)
@@ -48,7 +48,7 @@ kept_or_over m i h o = by_test (nat_lt i 24576) refl
     by_test false e = rw e (sym (behind-over m (24576 - i) (24576 - (i + 1)) h o (grind arith) (grind arith)))
 
 -- a header more
-pub header_more : (m next : Entries FieldValue) (vs : List Value) (i : ℕ) (v : Value) (n : List ℕ) (x : FieldValue) → i < length vs → v ≡ get_or vs i v → header_at (view v) ≡ Some (n, x) → next ≡ put_within i m n x →
+pub header_more : {A : Type 0} (m next : Entries FieldValue) (vs : List (Value A)) (i : ℕ) (v : Value A) (n : List ℕ) (x : FieldValue) → i < length vs → v ≡ get_or vs i v → header_at (view v) ≡ Some (n, x) → next ≡ put_within i m n x →
     headers_behind next (24576 - (i + 1)) (list_of header_at (items_view (drop (i + 1) vs))) ≡ headers_behind m (24576 - i) (list_of header_at (items_view (drop i vs)))
 header_more m next vs i v n x a e r f =
     ap (λ (t : Entries FieldValue). headers_behind t (24576 - (i + 1)) (list_of header_at (items_view (drop (i + 1) vs)))) f
@@ -56,7 +56,7 @@ header_more m next vs i v n x a e r f =
     ∙ sym (step m (24576 - i) vs i v (n, x) a e r)
 
 -- a header that was not read
-pub header_fail : (error : ReadError) (m : Entries FieldValue) (vs : List Value) (i : ℕ) (v : Value) → i < length vs → v ≡ get_or vs i v →
+pub header_fail : {A : Type 0} (error : ReadError) (m : Entries FieldValue) (vs : List (Value A)) (i : ℕ) (v : Value A) → i < length vs → v ≡ get_or vs i v →
     headers_behind m (24576 - i) (list_of header_at (items_view (drop i vs))) ≡ header_items (items_view vs) → Fails error (header_at (view v)) → Fails error (header_items (items_view vs))
 unfolding headers_behind
 header_fail Memory m vs i v a e w r = tt
@@ -68,8 +68,13 @@ take-none zero = refl
 take-none (suc n) = refl
 
 -- no header more
-pub header_end : (m : Entries FieldValue) (vs : List Value) (i n : ℕ) → length vs ≤ i → headers_behind m n (list_of header_at (items_view (drop i vs))) ≡ Some m
+pub header_end : {A : Type 0} (m : Entries FieldValue) (vs : List (Value A)) (i n : ℕ) → length vs ≤ i → headers_behind m n (list_of header_at (items_view (drop i vs))) ≡ Some m
 unfolding headers_behind
 header_end m vs i n h = ap (headers_behind m n) (list_of-end header_at vs i h) ∙ ap (λ (l : List Header). Some (append_all m l)) (take-none n)
+
+pub no_headers : {A : Type 0} (vs : List (Value A)) → length vs < 1 → header_items (items_view vs) ≡ Some []
+unfolding list_of items_view
+no_headers [] h = refl
+no_headers (v ∷ vs) h = absurd (omega arith)
 
 pub ruleset header_reading = (header_items-behind, header_more, header_fail, header_end)

@@ -13,5 +13,5 @@ pub mod SpelledOutcomes
 pub mod SpelledLayers
 pub mod LayerReading
 pub mod SpelledAnswers
-pub mod TextBytes
+pub mod SameBytes
 pub mod Spelled

@@ -1,7 +1,7 @@
--- What is read of a JSON value fits, can be spelled, and is read again.
+-- What is read of data whose texts are of bytes fits, can be spelled, and is read again.
 use Rattle.std.proofs.Common.{◌≡◌, true, Some}
-use Rattle.serde_json.specs.View.{view}
-use Rattle.serde_json.specs.declared.value.Value.{Value}
+use Rattle.json_forms.specs.Bytes.{of_bytes}
+use Rattle.serde_json.specs.Data.{Data}
 use Rattle.smithy_types.specs.declared.payload.Payload.{Payload}
 use Rattle.run_grammar.specs.Fits.{fits}
 use Rattle.run_grammar.specs.declared.answer.Answer.{Answer}
@@ -12,21 +12,21 @@ use Rattle.value_json.specs.Spellable.{payload_spellable, answer_spellable}
 use Rattle.value_json.specs.Values.{answer_data}
 use Rattle.value_json.proofs.PrintedAnswers.{answer_read}
 use Rattle.value_json.proofs.SpelledAnswers.{Fitting, answer_fits}
+use Rattle.value_json.proofs.SameBytes.{same_bytes}
 use Rattle.value_json.proofs.SpelledForms.{held}
 use Rattle.value_json.proofs.SpelledHeads.{payload_spelled}
-use Rattle.value_json.proofs.TextBytes.{value_of_bytes}
 
-fitting : (k : Kind) (v : Value) (a : Answer) → answer_at k (view v) ≡ Some a → Fitting k a
-fitting k v a e = held (Fitting k) (answer_at k (view v)) a e (answer_fits k (view v) (value_of_bytes v))
+fitting : (k : Kind) (d : Data) (a : Answer) → of_bytes d ≡ true → answer_at k d ≡ Some a → Fitting k a
+fitting k d a h e = held (Fitting k) (answer_at k d) a e (answer_fits k d (same_bytes d h))
 
-pub read_fits : (k : Kind) (v : Value) (a : Answer) → answer_at k (view v) ≡ Some a → fits k a ≡ true
-read_fits k v a e = (fitting k v a e).0
+pub read_fits : (k : Kind) (d : Data) (a : Answer) → of_bytes d ≡ true → answer_at k d ≡ Some a → fits k a ≡ true
+read_fits k d a h e = (fitting k d a h e).0
 
-pub read_is_spellable : (k : Kind) (v : Value) (a : Answer) → answer_at k (view v) ≡ Some a → answer_spellable a ≡ true
-read_is_spellable k v a e = (fitting k v a e).1
+pub read_is_spellable : (k : Kind) (d : Data) (a : Answer) → of_bytes d ≡ true → answer_at k d ≡ Some a → answer_spellable a ≡ true
+read_is_spellable k d a h e = (fitting k d a h e).1
 
-pub read_again : (k : Kind) (v : Value) (a : Answer) → answer_at k (view v) ≡ Some a → answer_at k (answer_data a) ≡ Some a
-read_again k v a e = answer_read k a (read_fits k v a e) (read_is_spellable k v a e)
+pub read_again : (k : Kind) (d : Data) (a : Answer) → of_bytes d ≡ true → answer_at k d ≡ Some a → answer_at k (answer_data a) ≡ Some a
+read_again k d a h e = answer_read k a (read_fits k d a h e) (read_is_spellable k d a h e)
 
-pub payload_is_spellable : (v : Value) (p : Payload) → payload_at (view v) ≡ Some p → payload_spellable p ≡ true
-payload_is_spellable v p e = held (λ q. payload_spellable q ≡ true) (payload_at (view v)) p e (payload_spelled (view v) (value_of_bytes v))
+pub payload_is_spellable : (d : Data) (p : Payload) → of_bytes d ≡ true → payload_at d ≡ Some p → payload_spellable p ≡ true
+payload_is_spellable d p h e = held (λ q. payload_spellable q ≡ true) (payload_at d) p e (payload_spelled d (same_bytes d h))

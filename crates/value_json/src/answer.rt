@@ -10,7 +10,7 @@ ghost use Rattle.value_json.specs.AnswerReadings.{noted_at, plainly_decided_at, 
 ghost use Rattle.value_json.specs.AnswerReadings.{said_at, answer_at, kind_at};
 ghost use Rattle.json_forms.specs.JsonData.{data_of};
 ghost use Rattle.json_forms.specs.Reading.{Reads};
-ghost use Rattle.serde_json.specs.View.{view};
+ghost use Rattle.json_forms.specs.View.{view};
 ghost use Rattle.value_json.specs.Values.{does_nothing, hook_answer_data, chosen_data, answer_data};
 ghost use Rattle.value_json.specs.Values.{kind_data};
 
@@ -32,9 +32,8 @@ use json_forms::forms::{
     print_blob, print_optional_text, read_blob, read_optional_text, read_tagged, read_word, says,
     starts,
 };
-use json_forms::{Json, ReadError, Row, read};
+use json_forms::{Json, ReadError, Row, Value, read};
 use run_grammar::{Answer, Chosen, Kind};
-use serde_json::Value;
 use smithy_context::HookAnswer;
 use smithy_types::{OutOfMemory, Shared};
 use std::alloc::Global;

@@ -6,7 +6,7 @@ ghost use Rattle.json_forms.specs.Reading.{Reads};
 ghost use Rattle.value_json.specs.Readings.{error_kind_at, connector_at, operation_fault_at};
 ghost use Rattle.value_json.specs.Readings.{connector_fault_at, plain_fault_at, fault_at};
 ghost use Rattle.value_json.specs.Readings.{outcome_at, change_at};
-ghost use Rattle.serde_json.specs.View.{view};
+ghost use Rattle.json_forms.specs.View.{view};
 ghost use Rattle.json_forms.specs.Prints.{null_or};
 ghost use Rattle.value_json.specs.Values.{error_kind_data, connector_data, fault_data};
 ghost use Rattle.value_json.specs.Values.{outcome_data, change_data};
@@ -16,8 +16,7 @@ use crate::http::{
 };
 use crate::names::{error_kind_name, error_kind_named, hook_name};
 use json_forms::forms::{read_tagged, read_word, says, starts};
-use json_forms::{Json, ReadError, read};
-use serde_json::Value;
+use json_forms::{Json, ReadError, Value, read};
 use smithy_context::Change;
 use smithy_types::{ConnectorKind, ErrorKind, Fault, FaultKind, OutOfMemory, Outcome, Shared};
 use std::alloc::Global;
@@ -128,7 +127,7 @@ pub fn read_error_kind(value: &Value) -> Result<ErrorKind, ReadError>
 }
 
 /// A kind of error, or null.
-#[tactic(auto, unfolding(json_forms::specs::Forms::optional_at))]
+#[tactic(auto, unfolding(json_forms::specs::View::view, json_forms::specs::Forms::optional_at))]
 pub fn read_optional_error_kind(value: &Value) -> Result<Option<ErrorKind>, ReadError>
     ensures { Reads result (optional_at error_kind_at (view value.now)) }
 {
@@ -264,7 +263,7 @@ pub fn read_change(alloc: Global, value: &Value) -> Result<Change, ReadError>
 }
 
 /// What a hook writes, or null.
-#[tactic(auto, unfolding(json_forms::specs::Forms::optional_at))]
+#[tactic(auto, unfolding(json_forms::specs::View::view, json_forms::specs::Forms::optional_at))]
 pub fn read_optional_change(alloc: Global, value: &Value) -> Result<Option<Change>, ReadError>
     ensures { Reads result (optional_at change_at (view value.now)) }
 {

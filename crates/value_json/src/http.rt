@@ -11,7 +11,7 @@ ghost use Rattle.value_json.specs.Readings.{header_at, header_items, headers_at,
 ghost use Rattle.value_json.specs.Readings.{sent_at, body_at, request_at, response_at, identity_at};
 ghost use Rattle.value_json.specs.Readings.{endpoint_header_at, endpoint_at};
 ghost use Rattle.json_forms.specs.declared.read.ReadError.TheVariants.{Memory};
-ghost use Rattle.serde_json.specs.View.{view, items_view};
+ghost use Rattle.json_forms.specs.View.{view, items_view};
 ghost use Rattle.json_forms.specs.Prints.{null_or};
 ghost use Rattle.value_json.specs.Values.{payload_data, headers_data, body_data, request_data};
 ghost use Rattle.value_json.specs.Values.{response_data, identity_data, endpoint_header_data};
@@ -22,8 +22,7 @@ use json_forms::forms::{
     print_blob, print_bytes, print_optional_number, print_optional_texts, print_texts, read_blob,
     read_optional_number, read_optional_texts, read_tagged, read_texts, starts,
 };
-use json_forms::{Json, ReadError, Row, read};
-use serde_json::Value;
+use json_forms::{Json, ReadError, Row, Value, read};
 use smithy_types::{
     Body, Endpoint, EndpointHeader, Headers, HttpRequest, HttpResponse, Identity, List,
     OutOfMemory, Payload, Shared,
@@ -292,7 +291,7 @@ fn read_sent(alloc: Global, value: &Value) -> Result<Body, ReadError>
 }
 
 /// A body.
-#[tactic(auto, unfolding(crate::specs::Readings::body_at))]
+#[tactic(auto, unfolding(json_forms::specs::View::view, crate::specs::Readings::body_at))]
 pub fn read_body(alloc: Global, value: &Value) -> Result<Body, ReadError>
     ensures { Reads result (body_at (view value.now)) }
 {
@@ -392,7 +391,7 @@ pub fn read_endpoint(alloc: Global, value: &Value) -> Result<Endpoint, ReadError
 }
 
 /// An endpoint behind a shared handle, or null.
-#[tactic(auto, unfolding(json_forms::specs::Forms::optional_at))]
+#[tactic(auto, unfolding(json_forms::specs::View::view, json_forms::specs::Forms::optional_at))]
 pub fn read_optional_endpoint(
     alloc: Global,
     value: &Value,

@@ -1,8 +1,8 @@
 //! Printing and reading are two directions of one thing. Each law is the contract of a function
 //! without a body.
 ghost use Rattle.std.specs.Prelude.{◌≡◌, Some, true};
-ghost use Rattle.serde_json.specs.View.{view};
-ghost use Rattle.serde_json.specs.declared.value.Value.{Value};
+ghost use Rattle.json_forms.specs.Bytes.{of_bytes};
+ghost use Rattle.serde_json.specs.Data.{Data};
 ghost use Rattle.smithy_types.specs.declared.payload.Payload.{Payload};
 ghost use Rattle.run_grammar.specs.Fits.{fits};
 ghost use Rattle.run_grammar.specs.declared.answer.Answer.{Answer};
@@ -19,15 +19,15 @@ pub fn printed_answers_are_read()
         answer_at k (answer_data a) ≡ Some a }
 {}
 
-/// What is read of a JSON value fits its question, and is an answer that JSON can spell. So it
-/// prints as JSON that is read as the same answer.
+/// What is read of data whose texts are of bytes fits its question, and is an answer that JSON can
+/// spell. So it prints as JSON that is read as the same answer.
 pub fn read_answers_can_be_spelled()
-    ensures fitting { (k : Kind) (v : Value) (a : Answer) → answer_at k (view v) ≡ Some a →
-        fits k a ≡ true }
-    ensures spellable { (k : Kind) (v : Value) (a : Answer) → answer_at k (view v) ≡ Some a →
-        answer_spellable a ≡ true }
-    ensures again { (k : Kind) (v : Value) (a : Answer) → answer_at k (view v) ≡ Some a →
-        answer_at k (answer_data a) ≡ Some a }
+    ensures fitting { (k : Kind) (d : Data) (a : Answer) → of_bytes d ≡ true →
+        answer_at k d ≡ Some a → fits k a ≡ true }
+    ensures spellable { (k : Kind) (d : Data) (a : Answer) → of_bytes d ≡ true →
+        answer_at k d ≡ Some a → answer_spellable a ≡ true }
+    ensures again { (k : Kind) (d : Data) (a : Answer) → of_bytes d ≡ true →
+        answer_at k d ≡ Some a → answer_at k (answer_data a) ≡ Some a }
 {}
 
 /// What a kind prints as is read as that kind.
@@ -39,6 +39,6 @@ pub fn printed_kinds_are_read()
 pub fn printed_payloads_are_read()
     ensures printed { (p : Payload) → payload_spellable p ≡ true →
         payload_at (payload_data p) ≡ Some p }
-    ensures read { (v : Value) (p : Payload) → payload_at (view v) ≡ Some p →
+    ensures read { (d : Data) (p : Payload) → of_bytes d ≡ true → payload_at d ≡ Some p →
         payload_spellable p ≡ true }
 {}

@@ -8,15 +8,14 @@ ghost use Rattle.json_forms.specs.Reading.{Reads};
 ghost use Rattle.json_forms.specs.Prints.{null_or};
 ghost use Rattle.value_json.specs.Values.{choose_note_data, choice_data, action_data, reason_data};
 ghost use Rattle.value_json.specs.Values.{sums_data, note_data, decided_data};
-ghost use Rattle.serde_json.specs.View.{view};
+ghost use Rattle.json_forms.specs.View.{view};
 
 use crate::fault::read_error_kind;
 use crate::names::error_kind_name;
 use json_forms::forms::{
     print_optional_number, read_optional_number, read_tagged, read_word, says, starts,
 };
-use json_forms::{Json, ReadError, Row, read};
-use serde_json::Value;
+use json_forms::{Json, ReadError, Row, Value, read};
 use smithy_types::{Choice, ChooseNote, DecideNote, OutOfMemory, Reason, RetryAction, Sums};
 use std::alloc::Global;
 
@@ -153,7 +152,7 @@ pub fn read_choose_note(value: &Value) -> Result<ChooseNote, ReadError>
 }
 
 /// Where an identity came from, or null.
-#[tactic(auto, unfolding(json_forms::specs::Forms::optional_at))]
+#[tactic(auto, unfolding(json_forms::specs::View::view, json_forms::specs::Forms::optional_at))]
 pub fn read_optional_choose_note(value: &Value) -> Result<Option<ChooseNote>, ReadError>
     ensures { Reads result (optional_at choose_note_at (view value.now)) }
 {
@@ -248,7 +247,7 @@ pub fn read_sums(value: &Value) -> Result<Sums, ReadError>
 }
 
 /// The sums of a bucket, or null.
-#[tactic(auto, unfolding(json_forms::specs::Forms::optional_at))]
+#[tactic(auto, unfolding(json_forms::specs::View::view, json_forms::specs::Forms::optional_at))]
 pub fn read_optional_sums(value: &Value) -> Result<Option<Sums>, ReadError>
     ensures { Reads result (optional_at sums_at (view value.now)) }
 {

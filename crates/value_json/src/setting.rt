@@ -9,7 +9,7 @@ ghost use Rattle.value_json.specs.SettingReadings.{reconnect_at, retry_at, stall
 ghost use Rattle.value_json.specs.SettingReadings.{setting_at, user_key, front_key, back_key};
 ghost use Rattle.value_json.specs.SettingReadings.{key_of_text, layer_entry_at, layer_at};
 ghost use Rattle.json_forms.specs.declared.read.ReadError.TheVariants.{Memory};
-ghost use Rattle.serde_json.specs.View.{view, items_view};
+ghost use Rattle.json_forms.specs.View.{view, items_view};
 ghost use Rattle.json_forms.specs.Prints.{null_or};
 ghost use Rattle.value_json.specs.Values.{timeouts_data, spec_data, retry_data, stall_data};
 ghost use Rattle.value_json.specs.Values.{value_data, key_text, layer_entry_data, layer_data};
@@ -23,8 +23,7 @@ use json_forms::forms::{
     read_true, read_word,
 };
 use json_forms::lists::named_once;
-use json_forms::{Json, ReadError, Row, read};
-use serde_json::Value;
+use json_forms::{Json, ReadError, Row, Value, read};
 use smithy_context::{Layer, LayerEntry, Setting, SettingKey};
 use smithy_types::{
     List, OutOfMemory, ReconnectMode, RetryConfig, RetryMode, RetryPartition, RetrySpec,
@@ -209,7 +208,7 @@ pub fn read_spec(value: &Value) -> Result<RetrySpec, ReadError>
 }
 
 /// A specification of retries, or null.
-#[tactic(auto, unfolding(json_forms::specs::Forms::optional_at))]
+#[tactic(auto, unfolding(json_forms::specs::View::view, json_forms::specs::Forms::optional_at))]
 pub fn read_optional_spec(value: &Value) -> Result<Option<RetrySpec>, ReadError>
     ensures { Reads result (optional_at spec_at (view value.now)) }
 {
@@ -330,7 +329,7 @@ pub fn read_setting(alloc: Global, key: &SettingKey, value: &Value) -> Result<Se
 }
 
 /// The value of a key's setting, or null for the mark that the key is unset.
-#[tactic(auto, unfolding(json_forms::specs::Forms::optional_at))]
+#[tactic(auto, unfolding(json_forms::specs::View::view, json_forms::specs::Forms::optional_at))]
 pub fn read_optional_setting(
     alloc: Global,
     key: &SettingKey,

@@ -1,6 +1,6 @@
 //! Scripts of `wait`.
 ghost use Rattle.std.specs.Prelude.{◌≡◌, [], IfOk, IsErrOf};
-ghost use Rattle.serde_json.specs.View.{view, items_view};
+ghost use Rattle.json_forms.specs.View.{view, items_view};
 ghost use Rattle.json_forms.specs.Lists.{list_of};
 ghost use Rattle.script_forms.specs.Members.{only_among};
 ghost use Rattle.json_forms.specs.Plain.{number_at};
@@ -10,12 +10,11 @@ ghost use Rattle.wait_script.specs.Script.{polls_at, result_at, script_at, scrip
 ghost use Rattle.wait_script.specs.Script.{some_of, state_at, words_at};
 
 use crate::states::state_named;
-use json_forms::ReadError;
 use json_forms::forms::{read_tagged, says, starts};
-use json_forms::read::{items, member, number, refusal, str, triple};
+use json_forms::read::{items, member, number, str, triple};
+use json_forms::{Arena, ReadError, Value};
 use script_forms::only_members;
 use scripted_timers::{PollResult, ScriptedPoll};
-use serde_json::Value;
 use smithy_types::{AcceptorState, List};
 use std::alloc::Global;
 use value_json::http::read_payload;
@@ -52,10 +51,8 @@ pub fn read_script(alloc: Global, bytes: &[u8]) -> Result<WaitScript, ReadError>
     ensures refused { IsErrOf result ReadError.Refused →
         (s : WaitScript) → IsScript bytes.now s → ⊥ }
 {
-    match Value::from_slice(alloc, bytes) {
-        Ok(value) => script_in(alloc, &value),
-        Err(error) => Err(refusal(&error)),
-    }
+    let mut arena = Arena::new(alloc);
+    script_in(alloc, &arena.read(bytes)?)
 }
 
 #[tactic(auto, unfolding(crate::specs::Script::script_at))]

@@ -1,12 +1,11 @@
 //! The members of a script's objects.
-ghost use Rattle.serde_json.specs.View.{view};
+ghost use Rattle.json_forms.specs.View.{view};
 ghost use Rattle.script_forms.specs.Members.{only_among};
 ghost use Rattle.json_forms.specs.Reading.{Reads};
 ghost use Rattle.waiters_script.specs.Members.{script_members, waiter_members};
 
-use json_forms::ReadError;
+use json_forms::{ReadError, Value};
 use script_forms::only_members;
-use serde_json::Value;
 
 /// No member stands beside those of a script.
 #[tactic(auto, unfolding(crate::specs::Members::script_members))]

@@ -1,6 +1,6 @@
 //! Scripts of `waiters`.
 ghost use Rattle.std.specs.Prelude.{◌≡◌, true, IfOk, IsErrOf};
-ghost use Rattle.serde_json.specs.View.{view, items_view};
+ghost use Rattle.json_forms.specs.View.{view, items_view};
 ghost use Rattle.json_forms.specs.Lists.{list_of};
 ghost use Rattle.json_forms.specs.Reading.{Reads};
 ghost use Rattle.waiters_script.specs.Script.{are_good, bucket_at, good_of, plan_at, script_at};
@@ -8,11 +8,10 @@ ghost use Rattle.waiters_script.specs.Script.{some_of, waiter_at, waiters_at, Is
 
 use crate::members::{only_of_script, only_of_waiter};
 use crate::terms::WaitersScript;
-use json_forms::ReadError;
-use json_forms::read::{items, member, number, number_32, refusal, sextuple};
+use json_forms::read::{items, member, number, number_32, sextuple};
+use json_forms::{Arena, ReadError, Value};
 use retry_quota::BucketTerms;
 use scripted_fleet::ScriptedWaiter;
-use serde_json::Value;
 use smithy_types::List;
 use std::alloc::Global;
 use wait_script::{read_polls, read_words};
@@ -25,10 +24,8 @@ pub fn read_script(alloc: Global, bytes: &[u8]) -> Result<WaitersScript, ReadErr
     ensures refused { IsErrOf result ReadError.Refused →
         (s : WaitersScript) → IsScript bytes.now s → ⊥ }
 {
-    match Value::from_slice(alloc, bytes) {
-        Ok(value) => script_in(alloc, &value),
-        Err(error) => Err(refusal(&error)),
-    }
+    let mut arena = Arena::new(alloc);
+    script_in(alloc, &arena.read(bytes)?)
 }
 
 #[tactic(auto, unfolding(crate::specs::Script::script_at))]

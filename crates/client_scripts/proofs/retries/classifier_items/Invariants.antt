@@ -1,5 +1,5 @@
 use Rattle.std.proofs.Common.{◌≡◌, drop}
-use Rattle.serde_json.specs.View.{items_view}
+use Rattle.json_forms.specs.View.{items_view}
 use Rattle.json_forms.specs.Lists.{list_of}
 use Rattle.json_forms.proofs.ReadLists.{behind}
 use Rattle.client_scripts.specs.Retries.{classifier_at}
