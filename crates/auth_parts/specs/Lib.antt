@@ -4,6 +4,7 @@ pub mod Choosing
 pub mod Deserializing
 pub mod Identities
 pub mod Reading
+pub mod Responses
 pub mod Serializing
 pub mod Signing
 pub mod Sourcing

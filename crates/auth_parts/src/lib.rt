@@ -9,6 +9,7 @@ pub mod deserialize;
 pub mod deserializer;
 pub mod identities;
 mod reading;
+pub mod responses;
 pub mod serialize;
 pub mod serializer;
 pub mod sign;

@@ -1,7 +1,7 @@
-//! The client of an operation: what it is built of, and how it is invoked. X is what lies outside of
-//! it, Q the quota that retries are paid from, C a classifier of retries and I an interceptor.
+//! The client of an operation: what it is built of, and how it is invoked. X is what lies outside
+//! of it, Q the quota that retries are paid from, C a classifier of retries and I an interceptor.
 ghost use Rattle.std.specs.List.{AllByRecursion};
-ghost use Rattle.std.specs.Prelude.{◌≡◌, ◌++◌, List};
+ghost use Rattle.std.specs.Prelude.{◌≡◌, ◌++◌, List, true};
 ghost use Rattle.bakery_model.specs.Model.{error_of, is_error};
 ghost use Rattle.client_laws.specs.Attempting.{GrewAsAllowed, IsOfWholeRun};
 ghost use Rattle.client_laws.specs.Telling.{TellsBuckets};
@@ -10,6 +10,7 @@ ghost use Rattle.orchestrate.specs.Answered.{InputAnswered};
 ghost use Rattle.orchestrate.specs.Growth.{GrewByAtMost};
 ghost use Rattle.orchestrate.specs.Handing.{HadMemory};
 ghost use Rattle.run_grammar.specs.declared.answer.Entry.{Entry};
+ghost use Rattle.smithy_types.specs.Config.{standard_retry};
 
 use bakery_model::BakeryError;
 use bakery_protocol::{BakeryDeserializer, BakerySerializer};
@@ -53,7 +54,9 @@ pub type BakeryClient<X, Q, C, I> = RuntimeComponents<
 pub type BakeryOperation<In, Out> = Operation<In, Out, BakeryError>;
 
 /// At most three attempts, a second and two seconds apart, without a random part.
-pub fn retry() -> RetryConfig {
+pub fn retry() -> RetryConfig
+    ensures { result ≡ record standard_retry { static_base = true } }
+{
     let mut retry = RetryConfig::standard();
     retry.static_base = true;
     retry
@@ -113,7 +116,10 @@ pub fn invoke<
 /// Takes outside and quota out of a client, for that of another operation.
 pub fn taken_apart<X: Outside + Drop, Q: Quota + Drop, C: ClassifyRetry, I: TakeOffer>(
     client: BakeryClient<X, Q, C, I>,
-) -> (X, Q) {
+) -> (X, Q)
+    ensures outside { result.0 ≡ client.parts.outside }
+    ensures quota { result.1 ≡ client.parts.quota }
+{
     let parts = client.parts;
     (parts.outside, parts.quota)
 }

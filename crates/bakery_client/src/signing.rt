@@ -1,4 +1,6 @@
 //! What requests are signed with.
+ghost use Rattle.std.specs.Prelude.{◌≡◌, [], ◌∷◌, None, IfOk, codes};
+ghost use Rattle.auth_parts.specs.declared.sources.IdentitySource.TheVariants.{Resolver};
 
 use auth_parts::IdentitySource;
 use http_schemes::{HTTP_BEARER_AUTH_SCHEME_ID, HttpIdentityResolver};
@@ -15,12 +17,19 @@ pub struct Signing {
 }
 
 /// The id of the scheme that signs by a bearer token.
-pub fn bearer_id() -> Text {
+pub fn bearer_id() -> Text
+    ensures { result ≡ codes "http-bearer-auth" }
+{
     Text::from_static(HTTP_BEARER_AUTH_SCHEME_ID)
 }
 
 /// What requests are signed with by this token.
-pub fn signing_by(alloc: Global, token: &str) -> Result<Signing, OutOfMemory> {
+pub fn signing_by(alloc: Global, token: &str) -> Result<Signing, OutOfMemory>
+    ensures options { IfOk result (λ s. s.options ≡ codes "http-bearer-auth" ∷ []) }
+    ensures source { IfOk result (λ s. s.source ≡ Resolver (record {
+      identity = record { content = token.now; expiration = None };
+    })) }
+{
     let mut options = List::new();
     options.push(alloc, bearer_id())?;
     Ok(Signing {
@@ -29,11 +38,15 @@ pub fn signing_by(alloc: Global, token: &str) -> Result<Signing, OutOfMemory> {
     })
 }
 
-/// Where this token comes from.
+// Where this token comes from.
 fn token_source(
     alloc: Global,
     token: &str,
-) -> Result<IdentitySource<HttpIdentityResolver>, OutOfMemory> {
+) -> Result<IdentitySource<HttpIdentityResolver>, OutOfMemory>
+    ensures { IfOk result (λ source. source ≡ Resolver (record {
+      identity = record { content = token.now; expiration = None };
+    })) }
+{
     let identity = Identity {
         content: Blob::from_slice(alloc, token.as_bytes())?,
         expiration: None,

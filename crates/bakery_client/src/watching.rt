@@ -1,6 +1,6 @@
 //! A waiter that asks for an order until it is ready.
 ghost use Rattle.std.specs.Prelude.{◌≡◌, ◌<◌, ◌≤◌, ◌+◌, ◌^◌, IfOk, Ok};
-ghost use Rattle.bakery_client.specs.Waiting.{Says};
+ghost use Rattle.bakery_client.specs.Waiting.{Says, WaitsBy};
 ghost use Rattle.bakery_model.specs.declared.model.OrderState.TheVariants.{Ready};
 
 use crate::client::{BakeryClient, BakeryOperation, invoke};
@@ -53,7 +53,11 @@ impl<Q: Quota + Drop, C: ClassifyRetry, I: TakeOffer> Watch<Q, C, I> {
         client: BakeryClient<ScriptedOutside, Q, C, I>,
         order: Text,
     ) -> Watch<Q, C, I>
-        ensures { result.unready ≡ 0 }
+        ensures operation { result.operation ≡ operation }
+        ensures client { result.client ≡ client }
+        ensures order { result.order ≡ order }
+        ensures polls { result.polls ≡ 0 }
+        ensures unready { result.unready ≡ 0 }
     {
         Watch {
             alloc,
@@ -190,14 +194,17 @@ pub type Ending = Result<
 >;
 
 /// Asks for the order until it is ready, with 2 to 120 seconds between two polls, and at most 300
-/// seconds in all. The fuel bounds the polls and the asks of sleeps. A wait that succeeds ends with
-/// an order that is ready.
+/// seconds in all. The fuel bounds the polls and the asks of sleeps, and is spent where the wait is
+/// `Unfinished`. A wait that succeeds ends with an order that is ready; each other ending is the one
+/// that its walk of polls and delays has.
 pub fn wait<Q: Quota + Drop, C: ClassifyRetry, I: TakeOffer>(
     watch: &mut Watch<Q, C, I>,
     fuel: u64,
 ) -> Ending
     requires { watch.old.unready + fuel < 2 ^ 64 }
-    ensures { IfOk result (λ last. last.result ≡ Ok (record { state = Ready })) }
+    ensures ready { IfOk result (λ last. last.result ≡ Ok (record { state = Ready })) }
+    ensures waits { WaitsBy (λ w. w.unready) 2000000000 120000000000 300000000000 watch.old fuel
+        result watch.new }
 {
     wait_within(watch, 2 * SECOND, 120 * SECOND, 300 * SECOND, fuel)
 }
@@ -213,7 +220,8 @@ fn wait_within<Q: Quota + Drop, C: ClassifyRetry, I: TakeOffer>(
     requires a_second { 1000000000 ≤ min }
     requires in_order { min ≤ max }
     requires room { watch.old.unready + fuel < 2 ^ 64 }
-    ensures { IfOk result (λ last. last.result ≡ Ok (record { state = Ready })) }
+    ensures ready { IfOk result (λ last. last.result ≡ Ok (record { state = Ready })) }
+    ensures waits { WaitsBy (λ w. w.unready) min max max_wait watch.old fuel result watch.new }
 {
     let alloc = watch.alloc;
     let built = WaiterOrchestrator::builder()

@@ -4,14 +4,14 @@ use Rattle.std.specs.Fmt.{decimal}
 use Rattle.smithy_types.specs.declared.fault.Outcome.{Outcome}
 use Rattle.smithy_types.specs.declared.fault.Outcome.TheVariants.{Output, Failed}
 use Rattle.smithy_types.specs.declared.fault.FaultKind.TheVariants.{Operation}
-use Rattle.smithy_types.specs.declared.http.Body.{Body}
-use Rattle.smithy_types.specs.declared.http.Body.TheVariants.{Bytes, Once, Taken}
+use Rattle.smithy_types.specs.declared.http.Body.TheVariants.{Bytes}
 use Rattle.smithy_types.specs.declared.http.HttpRequest.{HttpRequest}
 use Rattle.smithy_types.specs.declared.http.HttpResponse.{HttpResponse}
 use Rattle.smithy_types.specs.declared.kinds.ErrorKind.{ErrorKind}
 use Rattle.smithy_types.specs.declared.kinds.ErrorKind.TheVariants.{ThrottlingError, TransientError, ServerError}
 use Rattle.smithy_types.specs.declared.payload.Payload.{Payload}
 use Rattle.smithy_types.specs.declared.identity.Identity.{Identity}
+use Rattle.auth_parts.specs.Responses.{body_bytes}
 use Rattle.auth_endpoint.specs.declared.scheme.Signed.{Signed}
 use Rattle.auth_endpoint.specs.declared.scheme.Signed.TheVariants.{Request}
 use Rattle.http_schemes.specs.Signing.{SignsByHeader, SignsByKey}
@@ -21,11 +21,6 @@ use Rattle.client_service.specs.declared.scheme.ServiceScheme.TheVariants.{NoAut
 -- an input is posted to the service's root
 abbrev pub posted : Payload → HttpRequest
 posted input = record { method = codes "POST"; uri = codes "/"; headers = []; body = Bytes input.bytes }
-
-abbrev pub body_bytes : Body → List ℕ
-body_bytes (Bytes bytes) = bytes
-body_bytes (Once bytes) = bytes
-body_bytes Taken = []
 
 abbrev pub is_output : ℕ → Bool
 is_output status = nat_lt status 400 || (status == 418)

@@ -1,12 +1,11 @@
 //! How a response becomes an output or an error.
 ghost use Rattle.std.specs.Prelude.{◌≡◌, IfOk};
-ghost use Rattle.client_service.specs.Service.{body_bytes, is_output, read_outcome, status_text};
+ghost use Rattle.client_service.specs.Service.{is_output, read_outcome, status_text};
 
 use auth_parts::DeserializeResponse;
+use auth_parts::responses::body_bytes;
 use smithy_context::Settings;
-use smithy_types::{
-    Blob, Body, Fault, FaultKind, HttpResponse, OutOfMemory, Outcome, Payload, Text,
-};
+use smithy_types::{Fault, FaultKind, HttpResponse, OutOfMemory, Outcome, Payload, Text};
 use std::alloc::Global;
 
 /// The kind of an output's payload.
@@ -54,17 +53,6 @@ impl DeserializeResponse for ServiceDeserializer {
             kind: FaultKind::Operation(Payload { kind: ERROR, bytes }),
             text: status_text(alloc, response.status)?,
         }))
-    }
-}
-
-// The bytes of a body, none where they are gone.
-fn body_bytes(body: &Body) -> Result<Blob, OutOfMemory>
-    ensures { IfOk result (λ b. b ≡ body_bytes body.now) }
-{
-    match body {
-        Body::Bytes(bytes) => Ok(bytes.clone()?),
-        Body::Once(bytes) => Ok(bytes.clone()?),
-        Body::Taken => Ok(Blob::new()),
     }
 }
 

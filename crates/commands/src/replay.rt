@@ -55,7 +55,7 @@ fn print_of_script(alloc: Global, script: Script) -> Result<(Vec<u8>, PrintStatu
     ensures { IfOk result (λ p. IsReplay script p.0.items p.1) }
 {
     let Script { head, answers } = script;
-    let mut world = ScriptWorld::new(alloc, answers)?;
+    let mut world = ScriptWorld::with_capacity(alloc, answers, head.fuel as usize)?;
     let ending = run_script(alloc, &head, &mut world)?;
     let entries = world.into_entries();
     let text = print_run(alloc, &head, entries.as_slice(), &ending)?;

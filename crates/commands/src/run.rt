@@ -63,7 +63,8 @@ fn serve_fleet<R: Threads + Wait + Sync, S: Source, K: Sink, G: Gate + Sync>(
     sink: &mut K,
     gate: &G,
 ) -> Ended
-    ensures { Did S.view K.view (Some Command.Fleet) result source.old source.new sink.old sink.new }
+    ensures { Did S.view K.view (Some Command.Fleet) result source.old source.new sink.old
+        sink.new }
 {
     match read_all(alloc, source) {
         Ok(bytes) => give(answer_fleet(rt, alloc, bytes.as_slice(), gate), sink),

@@ -76,8 +76,8 @@ fn tell<'g, G: Gate>(
     out: &mut Vec<u8>,
 ) -> Result<PrintStatus, OutOfMemory>
     requires { IsEnded caller.state }
-    ensures { IfOk result (λ came. TellsOne number caller.entry.state before out.old.items out.new.items
-        came) }
+    ensures { IfOk result (λ came. TellsOne number caller.entry.state before out.old.items
+        out.new.items came) }
 {
     let told = told_of(caller)?;
     print_caller(alloc, number)?.write_line(alloc, out)?;
@@ -93,7 +93,8 @@ pub fn print_callers<'g, G: Gate>(
     out: &mut Vec<u8>,
 ) -> Result<PrintStatus, OutOfMemory>
     requires { All (λ c. IsEnded c.state) callers.items }
-    ensures { IfOk result (λ came. TellsAll (map (λ c. c.state) callers.entry.items) out.old.items out.new.items came) }
+    ensures { IfOk result (λ came. TellsAll (map (λ c. c.state) callers.entry.items) out.old.items
+        out.new.items came) }
 {
     let mut number = 0;
     let mut came = PrintStatus::Ok;

@@ -49,8 +49,8 @@ pub struct Told {
     pub outcome: Option<PrintStatus>,
 }
 
-// The partition of a client of this service. Each bucket that it may name is the one that all share;
-// its limiter is the caller's own.
+// The partition of a client of this service. Each bucket that it may name is the one that all
+// share; its limiter is the caller's own.
 fn caller_partition(
     service: &Text,
     bucket: Option<usize>,

@@ -23,10 +23,8 @@ use rate_limit::ClientRateLimiter;
 use retry_parts::TakeOffer;
 use retry_policy::{Classifier, ClassifyRetry, ModeledAsRetryableClassifier};
 use retry_quota::{Quota, Registry};
-use scripted::{Frame, RecordAnswer, ResponseRecord, ScriptedOutside, ScriptedResponse};
-use smithy_types::{
-    Blob, Headers, List, OutOfMemory, RetryConfig, Shared, Text, TimeoutConfig, Timers,
-};
+use scripted_service::{Row, service};
+use smithy_types::{RetryConfig, Text, TimeoutConfig, Timers};
 use std::alloc::Global;
 
 /// The service's name, by which its retries share a bucket.
@@ -43,9 +41,6 @@ const FUEL: u64 = 200;
 
 /// A second, in nanoseconds.
 const SECOND: u64 = 1_000_000_000;
-
-/// A status and a body.
-type Row = (u16, &'static str);
 
 /// The station sleeps, and then it answers.
 const ANSWERS: &[Row] = &[(503, "StationAsleep"), (200, "rain")];
@@ -78,7 +73,7 @@ type ForecastClient<X, Q, C, I> = RuntimeComponents<
 >;
 
 fn main(rt: HostRuntime) -> Result<()> {
-    let outside = service(rt.alloc())?;
+    let outside = service(rt.alloc(), ANSWERS)?;
     let buckets: Registry<ClientRateLimiter> = Registry::new(rt.alloc())?;
     get_forecast(&rt, outside, buckets)
 }
@@ -197,40 +192,4 @@ fn print_bucket<Q: Quota>(rt: &HostRuntime, quota: &Q) -> Result<()> {
         println!(rt; "The bucket has {} of {capacity} tokens.", sums.available)?;
     }
     Ok(())
-}
-
-// The service in memory, with its clock at 0.
-fn service(alloc: Global) -> Result<ScriptedOutside, OutOfMemory> {
-    let records = records_of(alloc, ANSWERS)?;
-    let nobody = Shared::new(alloc, List::new())?;
-    let mut outside = ScriptedOutside::new(alloc, 0, List::new());
-    outside.begin_invocation(alloc, records, nobody);
-    Ok(outside)
-}
-
-// The responses of these rows.
-fn records_of(alloc: Global, rows: &[Row]) -> Result<List<ResponseRecord>, OutOfMemory> {
-    let mut records = List::new();
-    for row in rows {
-        records.push(alloc, record_of(alloc, *row)?)?;
-    }
-    Ok(records)
-}
-
-// A response that comes at once, its body in one frame.
-fn record_of(alloc: Global, (status, body): Row) -> Result<ResponseRecord, OutOfMemory> {
-    let mut frames = List::new();
-    let bytes = Blob::from_slice(alloc, body.as_bytes())?;
-    frames.push(alloc, Frame { delay: 0, bytes })?;
-    let response = ScriptedResponse {
-        status,
-        headers: Headers::new(),
-        frames,
-        repeat: false,
-        clock: None,
-    };
-    Ok(ResponseRecord {
-        delay: 0,
-        answer: RecordAnswer::Response(response),
-    })
 }

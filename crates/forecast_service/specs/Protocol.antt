@@ -1,21 +1,16 @@
 -- The service's protocol: an input is posted to the operation's path, with its payload's bytes as the body.
 use Rattle.std.specs.Prelude.{ℕ, Bool, ◌||◌, ◌==◌, if◌then◌else◌, List, [], codes}
+use Rattle.auth_parts.specs.Responses.{body_bytes}
 use Rattle.smithy_types.specs.declared.fault.Outcome.{Outcome}
 use Rattle.smithy_types.specs.declared.fault.Outcome.TheVariants.{Output, Failed}
 use Rattle.smithy_types.specs.declared.fault.FaultKind.TheVariants as fault
-use Rattle.smithy_types.specs.declared.http.Body.{Body}
-use Rattle.smithy_types.specs.declared.http.Body.TheVariants.{Bytes, Once, Taken}
+use Rattle.smithy_types.specs.declared.http.Body.TheVariants.{Bytes}
 use Rattle.smithy_types.specs.declared.http.HttpRequest.{HttpRequest}
 use Rattle.smithy_types.specs.declared.http.HttpResponse.{HttpResponse}
 use Rattle.smithy_types.specs.declared.payload.Payload.{Payload}
 
 abbrev pub posted : Payload → HttpRequest
 posted input = record { method = codes "POST"; uri = codes "/get-forecast"; headers = []; body = Bytes input.bytes }
-
-abbrev pub body_bytes : Body → List ℕ
-body_bytes (Bytes bytes) = bytes
-body_bytes (Once bytes) = bytes
-body_bytes Taken = []
 
 -- a response that has an error of the model
 abbrev pub is_modelled : ℕ → Bool

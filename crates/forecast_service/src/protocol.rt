@@ -1,13 +1,13 @@
 //! The service's protocol: how inputs become requests, and responses outputs and errors.
 ghost use Rattle.std.specs.Prelude.{◌≡◌, IfOk};
-ghost use Rattle.forecast_service.specs.Protocol.{body_bytes, is_modelled, read_outcome};
+ghost use Rattle.forecast_service.specs.Protocol.{is_modelled, read_outcome};
 
 use crate::payloads::{ERROR, GET_FORECAST_OUTPUT};
+use auth_parts::responses::{body_bytes, failed};
 use auth_parts::{DeserializeResponse, SerializeRequest, Serialized};
 use smithy_context::Settings;
 use smithy_types::{
-    Blob, Body, Fault, FaultKind, Headers, HttpRequest, HttpResponse, OutOfMemory, Outcome,
-    Payload, Text,
+    Body, FaultKind, Headers, HttpRequest, HttpResponse, OutOfMemory, Outcome, Payload, Text,
 };
 use std::alloc::Global;
 
@@ -85,30 +85,9 @@ fn read_outcome(response: &HttpResponse) -> Result<Outcome, OutOfMemory>
     Ok(failed(kind, "refused by the station"))
 }
 
-// A failure of this kind with this text.
-fn failed(kind: FaultKind, text: &'static str) -> Outcome
-    ensures { result ≡ Outcome.Failed (record { kind = kind; text = text.now }) }
-{
-    Outcome::Failed(Fault {
-        kind,
-        text: Text::from_static(text),
-    })
-}
-
 // Whether a response of this status has an error of the model.
 fn is_modelled(status: u16) -> bool
     ensures { result ≡ is_modelled status }
 {
     status == 404 || status == 503
-}
-
-// The bytes of a body, none where they are gone.
-fn body_bytes(body: &Body) -> Result<Blob, OutOfMemory>
-    ensures { IfOk result (λ bytes. bytes ≡ body_bytes body.now) }
-{
-    match body {
-        Body::Bytes(bytes) => Ok(bytes.clone()?),
-        Body::Once(bytes) => Ok(bytes.clone()?),
-        Body::Taken => Ok(Blob::new()),
-    }
 }

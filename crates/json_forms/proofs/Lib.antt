@@ -4,6 +4,7 @@ pub mod Found
 pub mod Ranges
 pub mod RangeLoops
 pub mod Unsigned
+pub mod Plain
 pub mod NoFloat
 pub mod OtherLength
 pub mod Shown

@@ -1,15 +1,43 @@
 //! Numbers, as they stand in a text. A number has a value where it is a whole one of 64 bits or not
 //! too large for a float.
-ghost use Rattle.std.specs.Prelude.{◌≡◌, ◌==◌, ◌<◌, length, slice_index, is_some, option_and_then, IsTrue};
-ghost use Rattle.std.specs.Prelude.{true, false};
+ghost use Rattle.std.specs.Prelude.{◌≡◌, ◌==◌, ◌||◌, ◌<◌, length, slice_index, true, false, Some};
+ghost use Rattle.std.specs.Prelude.{is_some, option_and_then, IfSome, IsTrue};
+ghost use Rattle.serde_json.specs.Data.{unsigned};
 ghost use Rattle.serde_json.specs.Find.{as_u64};
 ghost use Rattle.serde_json.specs.Read.{float_of, number_from, number_of};
 ghost use Rattle.json_forms.specs.View.{number_view};
 
-use fast_float::Numeral;
+use fast_float::{Numeral, parse_u64};
+
+// The number that the bytes are where they are digits alone, and fit 64 bits. It is found without a
+// look for a point or an exponent, and most numbers are such.
+#[tactic(auto, using(crate::proofs::Plain::plain_numbers))]
+fn plain_number(bytes: &[u8]) -> Option<u64>
+    ensures { IfSome result (λ n. number_of bytes.now ≡ Some (unsigned n)) }
+{
+    if has_sign(bytes) {
+        None
+    } else {
+        parse_u64(bytes).ok()
+    }
+}
+
+fn has_sign(bytes: &[u8]) -> bool
+    ensures { result ≡ (slice_index bytes.now 0 == 45 || slice_index bytes.now 0 == 43) }
+{
+    !bytes.is_empty() && (bytes[0] == b'-' || bytes[0] == b'+')
+}
 
 /// Whether the number has a value.
+#[tactic(auto, using(crate::proofs::Plain::plain_numbers))]
 pub(crate) fn has_value(text: &str) -> bool
+    ensures { result ≡ is_some (number_of text.now) }
+{
+    plain_number(text.as_bytes()).is_some() || scanned_has_value(text)
+}
+
+// The same by a scan of the whole text.
+fn scanned_has_value(text: &str) -> bool
     ensures { result ≡ is_some (number_of text.now) }
 {
     let bytes = text.as_bytes();
@@ -47,7 +75,18 @@ fn is_finite(negative: bool, numeral: &Numeral<'_>) -> bool
 }
 
 /// The whole number without a sign that the text is.
+#[tactic(auto, using(crate::proofs::Plain::plain_numbers))]
 pub(crate) fn unsigned(text: &str) -> Option<u64>
+    ensures { result ≡ as_u64 (number_view text.now) }
+{
+    match plain_number(text.as_bytes()) {
+        Some(number) => Some(number),
+        None => scanned_unsigned(text),
+    }
+}
+
+// The same by a scan of the whole text.
+fn scanned_unsigned(text: &str) -> Option<u64>
     ensures { result ≡ as_u64 (number_view text.now) }
 {
     let bytes = text.as_bytes();

@@ -111,6 +111,21 @@ impl ScriptWorld {
         })
     }
 
+    /// A world that was asked nothing. Its log has room for this many calls from the start, so that
+    /// it isn't moved while it grows to them.
+    pub fn with_capacity(
+        alloc: Global,
+        answers: List<ScriptAnswer>,
+        calls: usize,
+    ) -> Result<ScriptWorld, OutOfMemory>
+        ensures answers { IfOk result (λ w. w.answers ≡ answers) }
+        ensures log { IfOk result (λ w. w.log ≡ []) }
+    {
+        let mut world = ScriptWorld::new(alloc, answers)?;
+        world.log = List::from_vec(Vec::with_capacity(alloc, calls)?);
+        Ok(world)
+    }
+
     /// What was asked and answered, in order.
     pub fn entries(&self) -> &List<Entry>
         ensures { result.now ≡ self.now.log }

@@ -25,11 +25,9 @@ use retry_quota::{Quota, Registry};
 use run_grammar::Entry;
 use runcheck::print::print_run;
 use runcheck::{Ending as RunEnding, RunHead};
-use scripted::{Frame, RecordAnswer, ResponseRecord, ScriptedOutside, ScriptedResponse};
-use smithy_types::{
-    Blob, Headers, List, OutOfMemory, SdkError, Shared, StopPoint, Text, TimeoutConfig, Timers,
-    Wire,
-};
+use scripted::ScriptedOutside;
+use scripted_service::{Row, service};
+use smithy_types::{OutOfMemory, SdkError, StopPoint, Text, TimeoutConfig, Timers, Wire};
 use std::alloc::Global;
 use waiters::WaiterError;
 
@@ -51,9 +49,6 @@ const WAIT_FUEL: u64 = 100;
 /// The operation `PlaceOrder`.
 type PlaceOrder = BakeryOperation<PlaceOrderInput, PlaceOrderOutput>;
 
-/// A status and a body.
-type Row = (u16, &'static str);
-
 /// It is too early, the oven is busy, and then the order is taken; at the third question it is
 /// baked.
 const ANSWERS: &[Row] = &[
@@ -66,7 +61,7 @@ const ANSWERS: &[Row] = &[
 ];
 
 fn main(rt: HostRuntime) -> Result<()> {
-    let outside = service(rt.alloc())?;
+    let outside = service(rt.alloc(), ANSWERS)?;
     let buckets: Registry<ClientRateLimiter> = Registry::new(rt.alloc())?;
     let (order, outside, buckets) = place_order(&rt, outside, buckets)?;
     get_order(&rt, order, outside, buckets)
@@ -317,40 +312,4 @@ fn service_error(error: BakeryError) -> &'static str {
         BakeryError::OvenBusy => "the oven is busy",
         BakeryError::NoSuchOrder => "there is no such order",
     }
-}
-
-// The service in memory, with its clock at 0.
-fn service(alloc: Global) -> Result<ScriptedOutside, OutOfMemory> {
-    let records = records_of(alloc, ANSWERS)?;
-    let nobody = Shared::new(alloc, List::new())?;
-    let mut outside = ScriptedOutside::new(alloc, 0, List::new());
-    outside.begin_invocation(alloc, records, nobody);
-    Ok(outside)
-}
-
-// The responses of these rows.
-fn records_of(alloc: Global, rows: &[Row]) -> Result<List<ResponseRecord>, OutOfMemory> {
-    let mut records = List::new();
-    for row in rows {
-        records.push(alloc, record_of(alloc, *row)?)?;
-    }
-    Ok(records)
-}
-
-// A response that comes at once, its body in one frame.
-fn record_of(alloc: Global, (status, body): Row) -> Result<ResponseRecord, OutOfMemory> {
-    let mut frames = List::new();
-    let bytes = Blob::from_slice(alloc, body.as_bytes())?;
-    frames.push(alloc, Frame { delay: 0, bytes })?;
-    let response = ScriptedResponse {
-        status,
-        headers: Headers::new(),
-        frames,
-        repeat: false,
-        clock: None,
-    };
-    Ok(ResponseRecord {
-        delay: 0,
-        answer: RecordAnswer::Response(response),
-    })
 }

@@ -11,8 +11,6 @@ mod edges;
 #[cfg(test)]
 mod faults;
 #[cfg(test)]
-mod long_poll;
-#[cfg(test)]
 mod rows;
 #[cfg(test)]
 mod support;

@@ -1,4 +1,3 @@
 pub mod Lines
 pub mod Saying
 pub mod Telling
-pub mod Weaker

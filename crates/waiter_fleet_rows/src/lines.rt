@@ -2,19 +2,7 @@
 
 use anyhow::Result;
 use retry_quota::TokenBucket;
-use waiter_fleet::{FleetEnd, FleetEvent};
-
-/// The name of an end.
-pub fn end_name(end: FleetEnd) -> &'static str {
-    match end {
-        FleetEnd::Ok => "Ok",
-        FleetEnd::OperationFailed => "OperationFailed",
-        FleetEnd::FailureState => "FailureState",
-        FleetEnd::ExceededMaxWait { .. } => "ExceededMaxWait",
-        FleetEnd::NoQuota { .. } => "NoQuota",
-        FleetEnd::Unfinished => "Unfinished",
-    }
-}
+use waiter_fleet::FleetEvent;
 
 /// Prints what happened, but for charges and delays of 0.
 pub fn print_event(rt: HostRuntime, event: &FleetEvent) -> Result<()> {
@@ -33,7 +21,7 @@ pub fn print_event(rt: HostRuntime, event: &FleetEvent) -> Result<()> {
         FleetEvent::Charged { .. } => {}
         FleetEvent::Refused { waiter, cost, .. } => println!(rt; "[\"refused\",{waiter},{cost}]")?,
         FleetEvent::End { waiter, end } => {
-            println!(rt; "[\"end\",{waiter},\"{}\"]", end_name(*end))?;
+            println!(rt; "[\"end\",{waiter},\"{end:?}\"]")?;
         }
     }
     Ok(())

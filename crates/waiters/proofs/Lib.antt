@@ -6,3 +6,4 @@ pub mod Seeing
 pub mod Spending
 pub mod Turning
 pub mod Walking
+pub mod Weaker

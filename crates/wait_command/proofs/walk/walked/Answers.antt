@@ -3,7 +3,7 @@ use Rattle.scripted_timers.specs.declared.scripted_timers.ScriptedTimers.{Script
 use Rattle.scripted_timers.specs.Makes.{Makes}
 use Rattle.wait_command.specs.Walk.{Says, Tells}
 use Rattle.wait_command.proofs.Telling.{tells}
-use Rattle.wait_command.proofs.Weaker.{waits}
+use Rattle.waiters.proofs.Weaker.{waits}
 use Rattle.wait_command.proofs.walk.walked.Goals as goal
 
 -- src/walk.rt:11:1

@@ -3,7 +3,7 @@ use Rattle.fast_float.specs.Text.{scan}
 use Rattle.serde_json.specs.Find.{as_u64}
 use Rattle.serde_json.specs.Read.{number_of, number_from}
 use Rattle.json_forms.proofs.Unsigned.{unsigned_view, negative_is_not_unsigned}
-use Rattle.json_forms.proofs.numbers.unsigned.Goals as goal
+use Rattle.json_forms.proofs.numbers.scanned_unsigned.Goals as goal
 
 pub returns-then-has_minus : goal.returns-then-has_minus
 unfolding number_of
