@@ -14,7 +14,7 @@ module _ {A : Type 0} (names : A → List ℕ) (signs : A → HttpRequest → Id
   signs_at : signing.SignsAlike signs → (schemes : List A) (place : Option ℕ) (request : HttpRequest) (identity : Identity) (endpoint : Endpoint) (a b : Answer)
       → SignsAt names signs schemes place request identity endpoint a → SignsAt names signs schemes place request identity endpoint b → a ≡ b
   signs_at alike schemes None request identity endpoint a b s t = s ∙ sym t
-  signs_at alike schemes (Some place) request identity endpoint a b (scheme, there, signed, made, is) (other, too, also, done, it) =
+  signs_at alike schemes (Some place) request identity endpoint a b (scheme, there, (signed, made, is)) (other, too, (also, done, it)) =
       let one : scheme ≡ other = same_some scheme other (sym there ∙ too) in
       is ∙ (ap answer_of (alike other request identity endpoint signed also (subst (λ x. signs x request identity endpoint signed) one made) done) ∙ sym it)
 

@@ -13,12 +13,16 @@ abbrev pub answer_of : Signed → Answer
 answer_of (Request request) = answers.Request request
 answer_of (Failed text) = answers.Failed text
 
+-- what this scheme makes of the request
+abbrev pub SignedBy : {A : Type 0} → (A → HttpRequest → Identity → Endpoint → Signed → Type 0) → A → HttpRequest → Identity → Endpoint → Answer → Type 0
+SignedBy signs scheme request identity endpoint a = (signed : Signed) × signs scheme request identity endpoint signed × (a ≡ answer_of signed)
+
 module _ {A : Type 0} (names : A → List ℕ) (signs : A → HttpRequest → Identity → Endpoint → Signed → Type 0) where
   -- the first scheme of the id signs; without one it is absent
   abbrev pub SignsAt : List A → Option ℕ → HttpRequest → Identity → Endpoint → Answer → Type 0
   SignsAt schemes None request identity endpoint a = a ≡ answers.Absent
   SignsAt schemes (Some place) request identity endpoint a =
-      (scheme : A) × (slice_get schemes place ≡ Some scheme) × (signed : Signed) × signs scheme request identity endpoint signed × (a ≡ answer_of signed)
+      (scheme : A) × (slice_get schemes place ≡ Some scheme) × SignedBy signs scheme request identity endpoint a
 
   abbrev pub SignsBy : List A → List ℕ → HttpRequest → Identity → Endpoint → Answer → Type 0
   SignsBy schemes id request identity endpoint a = SignsAt schemes (position (λ s. is_id id (names s)) schemes) request identity endpoint a

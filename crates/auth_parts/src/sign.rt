@@ -1,7 +1,7 @@
 //! Sign.
 ghost use Rattle.std.specs.Prelude.{◌≡◌, IfOk, position};
 ghost use Rattle.auth_endpoint.specs.Choice.{is_id};
-ghost use Rattle.auth_parts.specs.Signing.{Signs, SignsBy, answer_of};
+ghost use Rattle.auth_parts.specs.Signing.{Signs, SignsBy, SignedBy, answer_of};
 
 use auth_endpoint::{AuthScheme, Signed};
 use run_grammar::Answer;
@@ -54,10 +54,23 @@ fn sign_by<A: AuthScheme>(
     ensures { IfOk result (λ a. SignsBy A.names A.signs schemes.now id.now request.now identity.now
         endpoint.now a) }
 {
-    let Some(place) = place_of(schemes, id) else {
-        return Ok(Answer::Absent);
-    };
-    let signed = schemes[place].sign(alloc, request.clone()?, identity, endpoint)?;
+    match place_of(schemes, id) {
+        Some(place) => signed(alloc, &schemes[place], request, identity, endpoint),
+        None => Ok(Answer::Absent),
+    }
+}
+
+// What the scheme makes of a copy of the request.
+fn signed<A: AuthScheme>(
+    alloc: Global,
+    scheme: &A,
+    request: &HttpRequest,
+    identity: &Identity,
+    endpoint: &Endpoint,
+) -> Result<Answer, OutOfMemory>
+    ensures { IfOk result (λ a. SignedBy A.signs scheme.now request.now identity.now endpoint.now a) }
+{
+    let signed = scheme.sign(alloc, request.clone()?, identity, endpoint)?;
     answer_of(alloc, signed)
 }
 

@@ -176,7 +176,7 @@ module _ {A : Type 0} (names : A → List ℕ) (signs : A → HttpRequest → Id
   signs_at_fits : (schemes : List A) (place : Option ℕ) (request : HttpRequest) (identity : Identity) (endpoint : Endpoint) (a : Answer) → signing.SignsAt names signs schemes place request identity endpoint a → fits kinds.Sign a ≡ true
   unfolding fits
   signs_at_fits schemes None request identity endpoint a h = same_fits kinds.Sign a answers.Absent h refl
-  signs_at_fits schemes (Some place) request identity endpoint a h = same_fits kinds.Sign a _ h.4 (signed_fits h.2)
+  signs_at_fits schemes (Some place) request identity endpoint a h = same_fits kinds.Sign a _ h.2.2 (signed_fits h.2.0)
 
   signs_fit : (schemes : List A) (request : Option HttpRequest) (id : Option (List ℕ)) (identity : Option Identity) (endpoint : Option Endpoint) (a : Answer) → signing.Signs names signs schemes request id identity endpoint a → fits kinds.Sign a ≡ true
   unfolding fits

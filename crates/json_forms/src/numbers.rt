@@ -7,25 +7,25 @@ ghost use Rattle.serde_json.specs.Find.{as_u64};
 ghost use Rattle.serde_json.specs.Read.{float_of, number_from, number_of};
 ghost use Rattle.json_forms.specs.View.{number_view};
 
-use fast_float::{Numeral, parse_u64};
+use fast_float::Numeral;
 
-// The number that the bytes are where they are digits alone, and fit 64 bits. It is found without a
-// look for a point or an exponent, and most numbers are such.
+// The number that at most nineteen digits are, none for any other text. It is found without a look
+// for a point or an exponent, and most numbers are such.
 #[tactic(auto, using(crate::proofs::Plain::plain_numbers))]
 fn plain_number(bytes: &[u8]) -> Option<u64>
     ensures { IfSome result (λ n. number_of bytes.now ≡ Some (unsigned n)) }
 {
-    if has_sign(bytes) {
-        None
-    } else {
-        parse_u64(bytes).ok()
+    if bytes.is_empty() || bytes.len() > 19 {
+        return None;
     }
-}
-
-fn has_sign(bytes: &[u8]) -> bool
-    ensures { result ≡ (slice_index bytes.now 0 == 45 || slice_index bytes.now 0 == 43) }
-{
-    !bytes.is_empty() && (bytes[0] == b'-' || bytes[0] == b'+')
+    let mut number = 0u64;
+    for byte in bytes {
+        if *byte < b'0' || *byte > b'9' {
+            return None;
+        }
+        number = number * 10 + (*byte - b'0') as u64;
+    }
+    Some(number)
 }
 
 /// Whether the number has a value.

@@ -1,5 +1,6 @@
 //! The service, and the responses that it has.
-ghost use Rattle.std.specs.Prelude.{◌≡◌, [], Some, map, IfOk};
+ghost use Rattle.std.specs.Prelude.{◌≡◌, [], None, Some, map, IfOk};
+ghost use Rattle.scripted.specs.declared.call.OpenCall.TheVariants.{Idle};
 ghost use Rattle.scripted_service.specs.Service.{record_of};
 
 use scripted::{Frame, RecordAnswer, ResponseRecord, ScriptedOutside, ScriptedResponse};
@@ -11,12 +12,15 @@ pub type Row = (u16, &'static str);
 
 /// A service that answers each request by the next of these rows, at once, without headers and with
 /// the body in one frame. Behind the last row a request fails. Its clock is at 0, it has no words
-/// and no identities. `OutOfMemory` where there is no memory for the responses.
+/// and no identities, and nothing is open. `OutOfMemory` where there is no memory for the responses.
 pub fn service(alloc: Global, rows: &[Row]) -> Result<ScriptedOutside, OutOfMemory>
     ensures records { IfOk result (λ s. s.records ≡ map record_of rows.now) }
     ensures moment { IfOk result (λ s. s.moment ≡ 0) }
     ensures words { IfOk result (λ s. s.words ≡ []) }
     ensures identities { IfOk result (λ s. s.identities ≡ Some []) }
+    ensures sleeps { IfOk result (λ s. s.sleeps ≡ []) }
+    ensures call { IfOk result (λ s. s.call ≡ Idle) }
+    ensures load { IfOk result (λ s. s.load ≡ None) }
     ensures faults { IfOk result (λ s. s.faults ≡ 0) }
 {
     let records = records_of(alloc, rows)?;

@@ -4,3 +4,4 @@ pub mod ListItems
 pub mod Partition
 pub mod Reserved
 pub mod Config
+pub mod Content

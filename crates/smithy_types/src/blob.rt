@@ -4,15 +4,27 @@ ghost use Rattle.std.specs.Cmp.{partial_equiv_from_equiv};
 ghost use Rattle.std.specs.Cmp.Lexicographic.{pointwise, nat_list_eq_equiv};
 
 use crate::OutOfMemory;
+use arrayvec::ArrayVec;
 use bytes::Bytes;
 use std::alloc::{AllocError, Global};
 use std::fmt;
 use std::marker::Model;
 
-/// Bytes that are shared and never change: a copy costs the same however long they are.
+/// The most bytes that stand in a blob itself.
+const FEW: usize = 24;
+
+/// Bytes that never change. A copy costs the same however long they are: a few stand in the blob
+/// itself and take no memory, and all others are shared.
 #[derive(Drop)]
 pub struct Blob {
-    bytes: Bytes,
+    bytes: Content,
+}
+
+// Few bytes, or shared ones.
+#[derive(Drop)]
+enum Content {
+    Few(ArrayVec<u8, FEW>),
+    Shared(Bytes),
 }
 
 impl Model for Blob {
@@ -20,7 +32,9 @@ impl Model for Blob {
 
     ghost Value = { List ℕ };
 
-    ghost view = { λ b. b.bytes };
+    ghost use Rattle.smithy_types.specs.Content.{bytes_of};
+
+    ghost view = { λ b. bytes_of b.bytes };
 }
 
 impl Blob {
@@ -29,7 +43,7 @@ impl Blob {
         ensures { result ≡ [] }
     {
         Blob {
-            bytes: Bytes::new(),
+            bytes: Content::Few(ArrayVec::new()),
         }
     }
 
@@ -37,9 +51,11 @@ impl Blob {
     pub fn from_slice(alloc: Global, bytes: &[u8]) -> Result<Blob, OutOfMemory>
         ensures { IfOk result (λ b. b ≡ bytes.now) }
     {
-        Ok(Blob {
-            bytes: Bytes::copy_from_slice(alloc, bytes)?,
-        })
+        let bytes = match ArrayVec::try_from(bytes) {
+            Ok(few) => Content::Few(few),
+            Err(_) => Content::Shared(Bytes::copy_from_slice(alloc, bytes)?),
+        };
+        Ok(Blob { bytes })
     }
 
     /// These bytes, which are moved and not copied.
@@ -47,7 +63,7 @@ impl Blob {
         ensures { IfOk result (λ b. b ≡ bytes.items) }
     {
         Ok(Blob {
-            bytes: Bytes::from_vec(bytes)?,
+            bytes: Content::Shared(Bytes::from_vec(bytes)?),
         })
     }
 
@@ -55,21 +71,24 @@ impl Blob {
     pub fn as_slice(&self) -> &[u8]
         ensures { result.now ≡ self.now }
     {
-        self.bytes.as_slice()
+        match &self.bytes {
+            Content::Few(few) => few.as_slice(),
+            Content::Shared(shared) => shared.as_slice(),
+        }
     }
 
     /// How many bytes there are.
     pub fn len(&self) -> usize
         ensures { result ≡ length self.now }
     {
-        self.bytes.len()
+        self.as_slice().len()
     }
 
     /// Whether there is none.
     pub fn is_empty(&self) -> bool
         ensures { result ≡ (length self.now == 0) }
     {
-        self.bytes.is_empty()
+        self.as_slice().is_empty()
     }
 }
 
@@ -77,9 +96,11 @@ impl Clone for Blob {
     ghost is_clone = { λ b copy. copy ≡ b };
 
     fn clone(&self) -> Result<Blob, AllocError> {
-        Ok(Blob {
-            bytes: self.bytes.clone()?,
-        })
+        let bytes = match &self.bytes {
+            Content::Few(few) => Content::Few(few.clone()?),
+            Content::Shared(shared) => Content::Shared(shared.clone()?),
+        };
+        Ok(Blob { bytes })
     }
 }
 
