@@ -6,7 +6,7 @@ use Rattle.client_scripts.specs.declared.terms.InvocationRecord.{InvocationRecor
 use Rattle.json_forms.specs.Prints.{row, num, null_or}
 use Rattle.retry_quota.specs.Book.{sums_of}
 use Rattle.run_grammar.specs.declared.answer.Entry.{Entry}
-use Rattle.runcheck.specs.Print.{line}
+use Rattle.run_print.specs.Print.{line}
 use Rattle.scripted_client.specs.Clients.{ServiceWorld}
 use Rattle.serde_json.specs.Data.{Data, string}
 use Rattle.shell.specs.declared.status.PrintStatus.{PrintStatus}

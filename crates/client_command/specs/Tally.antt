@@ -4,8 +4,8 @@ use Rattle.client_runs.specs.Running.{InvokedIn, Ran, Runs}
 use Rattle.client_runs.specs.declared.set.ClientSet.{ClientSet}
 use Rattle.client_scripts.specs.declared.terms.InvocationRecord.{InvocationRecord}
 use Rattle.run_grammar.specs.declared.answer.Entry.{Entry}
-use Rattle.runcheck.specs.declared.ending.Ending.{Ending}
-use Rattle.runcheck.specs.declared.ending.Ending.TheVariants as endings
+use Rattle.run_print.specs.declared.ending.Ending.{Ending}
+use Rattle.run_print.specs.declared.ending.Ending.TheVariants as endings
 use Rattle.scripted_client.specs.Clients.{ServiceWorld}
 use Rattle.smithy_types.specs.Chain.{Chained}
 use Rattle.client_command.specs.declared.tally.Tally.{Tally}

@@ -4,7 +4,7 @@ ghost use Rattle.client_runs.specs.Means.{ServedBy};
 ghost use Rattle.client_scripts.specs.Placed.{HasClient};
 ghost use Rattle.json_forms.specs.JsonData.{data_of};
 ghost use Rattle.retry_quota.specs.Book.{sums_of};
-ghost use Rattle.runcheck.specs.Print.{line};
+ghost use Rattle.run_print.specs.Print.{line};
 ghost use Rattle.client_command.specs.Report.{Counts, Reports, made_data};
 
 use crate::tally::{Tally, count_runs};

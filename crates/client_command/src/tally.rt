@@ -9,7 +9,7 @@ use client_runs::ClientSet;
 use client_scripts::InvocationRecord;
 use retry_parts::TakeOffer;
 use retry_policy::ClassifyRetry;
-use runcheck::Ending;
+use run_print::Ending;
 use smithy_types::{List, OutOfMemory};
 use std::alloc::Global;
 

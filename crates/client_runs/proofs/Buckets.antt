@@ -4,7 +4,7 @@ use Rattle.std.proofs.lemmas.List.{drop_all}
 use Rattle.std.proofs.lemmas.Option.{get_or_from_slice_get, slice_get_cases, slice_get_within}
 use Rattle.std.specs.Prelude.{Option, None, Some, option_map, slice_get}
 use Rattle.retry_quota.specs.Book.{Book, sums_of}
-use Rattle.runcheck.specs.Print.{line}
+use Rattle.run_print.specs.Print.{line}
 use Rattle.smithy_types.specs.declared.sums.Sums.{Sums}
 use Rattle.client_runs.specs.Print.{bucket_data, buckets_text}
 

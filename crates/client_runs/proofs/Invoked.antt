@@ -2,9 +2,9 @@
 use Rattle.std.proofs.Common.{◌≡◌, ◌∙◌, sym, ap, subst, List, [], ◌++◌}
 use Rattle.orchestrate.specs.Handing.{HandedOn}
 use Rattle.run_grammar.specs.declared.answer.Entry.{Entry}
-use Rattle.runcheck.specs.Endings.{Ends}
-use Rattle.runcheck.specs.declared.ending.Ending.{Ending}
-use Rattle.runcheck.specs.declared.head.RunHead.{RunHead}
+use Rattle.run_print.specs.Endings.{Ends}
+use Rattle.run_print.specs.declared.ending.Ending.{Ending}
+use Rattle.run_print.specs.declared.head.RunHead.{RunHead}
 
 -- the whole log is related
 pub served_whole : {W : Type 0} (relates : W → List Entry → W → Type 0) (old new : W) (before after log : List Entry)

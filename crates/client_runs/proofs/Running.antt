@@ -3,7 +3,7 @@ use Rattle.std.proofs.Common.{◌≡◌, ◌∙◌, refl, sym, ap, subst, ℕ, z
 use Rattle.std.proofs.lemmas.List.{length-set}
 use Rattle.client_scripts.specs.declared.terms.InvocationRecord.{InvocationRecord}
 use Rattle.run_grammar.specs.declared.answer.Entry.{Entry}
-use Rattle.runcheck.specs.declared.ending.Ending.{Ending}
+use Rattle.run_print.specs.declared.ending.Ending.{Ending}
 use Rattle.scripted_client.specs.Clients.{ServiceWorld}
 use Rattle.shell.specs.declared.status.PrintStatus.{PrintStatus}
 use Rattle.shell.specs.declared.status.PrintStatus.TheVariants as outcomes

@@ -5,9 +5,9 @@ use Rattle.components.specs.Resting.{Exchanges}
 use Rattle.rate_limit.specs.Pace.{Pace}
 use Rattle.retry_quota.specs.Registers.{Registers}
 use Rattle.run_grammar.specs.declared.answer.Entry.{Entry}
-use Rattle.runcheck.specs.Endings.{Ends}
-use Rattle.runcheck.specs.declared.ending.Ending.{Ending}
-use Rattle.runcheck.specs.declared.head.RunHead.{RunHead}
+use Rattle.run_print.specs.Endings.{Ends}
+use Rattle.run_print.specs.declared.ending.Ending.{Ending}
+use Rattle.run_print.specs.declared.head.RunHead.{RunHead}
 use Rattle.scripted.specs.Makes.{Makes}
 use Rattle.scripted.specs.declared.call.OpenCall.TheVariants.{Idle}
 use Rattle.scripted.specs.declared.records.IdentityRecord.{IdentityRecord}

@@ -3,8 +3,8 @@ use Rattle.std.specs.Prelude.{ℕ, ◌+◌, List, [], ◌∷◌, ◌++◌, codes
 use Rattle.json_forms.specs.Prints.{row, num}
 use Rattle.retry_quota.specs.Book.{Book, sums_of}
 use Rattle.run_grammar.specs.declared.answer.Entry.{Entry}
-use Rattle.runcheck.specs.Print.{line, entries_text, ending_data}
-use Rattle.runcheck.specs.declared.ending.Ending.{Ending}
+use Rattle.run_print.specs.Print.{line, entries_text, ending_data}
+use Rattle.run_print.specs.declared.ending.Ending.{Ending}
 use Rattle.serde_json.specs.Data.{Data, string}
 use Rattle.smithy_types.specs.declared.sums.Sums.{Sums}
 use Rattle.value_json.specs.Values.{sums_data}

@@ -3,8 +3,8 @@ use Rattle.std.specs.Prelude.{◌≡◌, ℕ, ◌+◌, ◌-◌, ◌^◌, List, [
 use Rattle.auth_parts.specs.Identities.{loads_of}
 use Rattle.client_scripts.specs.declared.terms.InvocationRecord.{InvocationRecord}
 use Rattle.run_grammar.specs.declared.answer.Entry.{Entry}
-use Rattle.runcheck.specs.Print.{line}
-use Rattle.runcheck.specs.declared.ending.Ending.{Ending}
+use Rattle.run_print.specs.Print.{line}
+use Rattle.run_print.specs.declared.ending.Ending.{Ending}
 use Rattle.scripted_client.specs.Clients.{ServiceWorld}
 use Rattle.scripted_client.specs.declared.client.ScriptedClient.{ScriptedClient}
 use Rattle.shell.specs.declared.status.PrintStatus.{PrintStatus}

@@ -7,7 +7,7 @@ use client_scripts::InvocationRecord;
 use retry_parts::TakeOffer;
 use retry_policy::ClassifyRetry;
 use run_grammar::Entry;
-use runcheck::{Ending, RunHead};
+use run_print::{Ending, RunHead};
 use scripted::ScriptedOutside;
 use scripted_client::{ClientQuota, ScriptedClient};
 use smithy_types::{List, OutOfMemory, Payload, StopPoint};

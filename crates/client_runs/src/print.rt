@@ -2,16 +2,16 @@
 ghost use Rattle.std.specs.Prelude.{◌≡◌, ◌+◌, ◌++◌, option_map, slice_get, OnOk, IfOk};
 ghost use Rattle.json_forms.specs.JsonData.{data_of};
 ghost use Rattle.retry_quota.specs.Book.{sums_of};
-ghost use Rattle.runcheck.specs.Print.{line};
+ghost use Rattle.run_print.specs.Print.{line};
 ghost use Rattle.client_runs.specs.Print.{bucket_data, buckets_text, invocation_data};
 ghost use Rattle.client_runs.specs.Print.{invocation_text, loads_data};
 
 use json_forms::{Json, Row};
 use retry_quota::Quota;
 use run_grammar::Entry;
-use runcheck::Ending;
-use runcheck::ending::print_ending;
-use runcheck::print::print_entries;
+use run_print::Ending;
+use run_print::ending::print_ending;
+use run_print::print::print_entries;
 use scripted_client::ClientQuota;
 use smithy_types::{OutOfMemory, Sums};
 use std::alloc::Global;

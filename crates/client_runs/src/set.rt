@@ -10,7 +10,7 @@ use client_scripts::InvocationRecord;
 use retry_parts::TakeOffer;
 use retry_policy::ClassifyRetry;
 use run_grammar::Entry;
-use runcheck::Ending;
+use run_print::Ending;
 use scripted::ScriptedOutside;
 use scripted_client::{ClientQuota, ScriptedClient};
 use shell::status::PrintStatus;

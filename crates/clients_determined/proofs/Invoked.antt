@@ -11,8 +11,8 @@ use Rattle.retry_quota.specs.Registers.{Registers}
 use Rattle.retry_quota.specs.declared.permit.Permit.{Permit}
 use Rattle.run_grammar.specs.Standing.{start}
 use Rattle.run_grammar.specs.declared.answer.Entry.{Entry}
-use Rattle.runcheck.specs.Endings.{EndsBy}
-use Rattle.runcheck.specs.declared.ending.Ending.{Ending}
+use Rattle.run_print.specs.Endings.{EndsBy}
+use Rattle.run_print.specs.declared.ending.Ending.{Ending}
 use Rattle.scripted.specs.declared.scripted_outside.ScriptedOutside.{ScriptedOutside}
 use Rattle.scripted_client.specs.declared.client.ScriptedClient.{ScriptedClient}
 use Rattle.smithy_context.specs.declared.context.InterceptorContext.{InterceptorContext}

@@ -9,7 +9,7 @@ use Rattle.client_runs.specs.declared.set.ClientSet.{ClientSet}
 use Rattle.client_scripts.specs.declared.terms.InvocationRecord.{InvocationRecord}
 use Rattle.retry_parts.specs.Meanings.{InterceptorMeans}
 use Rattle.run_grammar.specs.declared.answer.Entry.{Entry}
-use Rattle.runcheck.specs.declared.ending.Ending.{Ending}
+use Rattle.run_print.specs.declared.ending.Ending.{Ending}
 use Rattle.scripted_client.specs.declared.client.ScriptedClient.{ScriptedClient}
 use Rattle.smithy_context.specs.declared.context.InterceptorContext.{InterceptorContext}
 use Rattle.smithy_types.specs.Chain.{Chained}

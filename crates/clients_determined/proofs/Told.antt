@@ -11,7 +11,7 @@ use Rattle.client_runs.specs.declared.set.ClientSet.{ClientSet}
 use Rattle.client_scripts.specs.declared.terms.InvocationRecord.{InvocationRecord}
 use Rattle.retry_parts.specs.Meanings.{InterceptorMeans}
 use Rattle.retry_quota.specs.Book.{sums_of}
-use Rattle.runcheck.specs.Print.{line}
+use Rattle.run_print.specs.Print.{line}
 use Rattle.shell.specs.declared.status.PrintStatus.{PrintStatus}
 use Rattle.shell.specs.declared.status.PrintStatus.TheVariants as outcomes
 use Rattle.smithy_context.specs.declared.context.InterceptorContext.{InterceptorContext}

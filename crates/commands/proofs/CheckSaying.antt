@@ -1,8 +1,8 @@
 -- What is said by a verdict is said of the bytes.
 use Rattle.std.proofs.Common.{ℕ, List, ◌≡◌, ◌↔◌, refl, sym, subst, codes}
-use Rattle.run_check.specs.Reach.{Reach}
-use Rattle.run_check.specs.declared.judge.Verdict.{Verdict}
-use Rattle.run_check.specs.declared.judge.Verdict.TheVariants as verdicts
+use Rattle.runcheck.specs.Reach.{Reach}
+use Rattle.runcheck.specs.declared.judge.Verdict.{Verdict}
+use Rattle.runcheck.specs.declared.judge.Verdict.TheVariants as verdicts
 use Rattle.shell.specs.Said.{Said, prints}
 use Rattle.shell.specs.declared.status.PrintStatus.TheVariants as outcomes
 use Rattle.commands.specs.Check.{check_says, line_of, verdict_says}

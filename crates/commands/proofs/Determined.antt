@@ -4,11 +4,11 @@ use Rattle.run_grammar.specs.declared.answer.Entry.{Entry}
 use Rattle.run_grammar.specs.Standing.{start}
 use Rattle.orchestrate.proofs.SpelledLaw.{one_spelled_run}
 use Rattle.ending_determined.proofs.Endings.{one_ending, run_of, same_some}
-use Rattle.runcheck.specs.Endings.{EndsBy}
-use Rattle.runcheck.specs.Print.{run_text}
-use Rattle.runcheck.specs.declared.ending.Ending.{Ending}
-use Rattle.scripts.specs.Replay.{IsScript, is_within}
-use Rattle.scripts.specs.declared.replay.Script.{Script}
+use Rattle.run_print.specs.Endings.{EndsBy}
+use Rattle.run_print.specs.Print.{run_text}
+use Rattle.run_print.specs.declared.ending.Ending.{Ending}
+use Rattle.replay_script.specs.Replay.{IsScript, is_within}
+use Rattle.replay_script.specs.declared.replay.Script.{Script}
 use Rattle.shell.specs.Determined.{IsFunctional}
 use Rattle.shell.specs.Said.{Said, prints, refuses}
 use Rattle.shell.specs.declared.status.PrintStatus.{PrintStatus}

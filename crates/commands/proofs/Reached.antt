@@ -5,21 +5,21 @@ use Rattle.std.specs.List.{list_all}
 use Rattle.json_back.specs.Lines.{are_readable}
 use Rattle.orchestrate.specs.Script.{Replies, RepliesBy, Spelled, default_for, left_by, next_of}
 use Rattle.orchestrate.specs.declared.script.ScriptAnswer.{ScriptAnswer}
-use Rattle.run_check.proofs.Ended.{ended_reached, unfinished_not}
-use Rattle.run_check.specs.Carried.{IsCarried, answer_tellable, answers_tellable, change_tellable, fault_tellable, hook_answer_tellable, outcome_tellable}
-use Rattle.run_check.specs.Reach.{Reach}
+use Rattle.runcheck.proofs.Ended.{ended_reached, unfinished_not}
+use Rattle.runcheck.specs.Carried.{IsCarried, answer_tellable, answers_tellable, change_tellable, fault_tellable, hook_answer_tellable, outcome_tellable}
+use Rattle.runcheck.specs.Reach.{Reach}
 use Rattle.run_grammar.specs.Entry.{kind_of}
 use Rattle.run_grammar.specs.declared.answer.Answer.{Answer}
 use Rattle.run_grammar.specs.declared.answer.Answer.TheVariants as answers
 use Rattle.run_grammar.specs.declared.answer.Entry.{Entry}
 use Rattle.run_grammar.specs.declared.kind.Kind.{Kind}
 use Rattle.run_grammar.specs.declared.kind.Kind.TheVariants as kinds
-use Rattle.runcheck.specs.Endings.{Ends}
-use Rattle.runcheck.specs.Print.{run_data, run_text}
-use Rattle.runcheck.specs.declared.ending.Ending.{Ending}
-use Rattle.runcheck.specs.declared.ending.Ending.TheVariants as endings
-use Rattle.scripts.specs.Replay.{script_spellable}
-use Rattle.scripts.specs.declared.replay.Script.{Script}
+use Rattle.run_print.specs.Endings.{Ends}
+use Rattle.run_print.specs.Print.{run_data, run_text}
+use Rattle.run_print.specs.declared.ending.Ending.{Ending}
+use Rattle.run_print.specs.declared.ending.Ending.TheVariants as endings
+use Rattle.replay_script.specs.Replay.{script_spellable}
+use Rattle.replay_script.specs.declared.replay.Script.{Script}
 use Rattle.shell.specs.Said.{Said, prints, refuses}
 use Rattle.shell.specs.declared.status.PrintStatus.{PrintStatus}
 use Rattle.shell.specs.declared.status.PrintStatus.TheVariants as outcomes

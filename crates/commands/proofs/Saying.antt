@@ -2,8 +2,8 @@
 use Rattle.std.proofs.Common.{ℕ, List, ◌≡◌, true}
 use Rattle.shell.specs.Said.{Said, prints, refuses}
 use Rattle.shell.specs.declared.status.Refusal.TheVariants as refusals
-use Rattle.scripts.specs.Replay.{IsScript, script_spellable}
-use Rattle.scripts.specs.declared.replay.Script.{Script}
+use Rattle.replay_script.specs.Replay.{IsScript, script_spellable}
+use Rattle.replay_script.specs.declared.replay.Script.{Script}
 use Rattle.commands.specs.Replay.{replay_says, script_says}
 
 pub script_said : (bytes : List ℕ) (s : Script) (x : Said) → IsScript bytes s → script_spellable s ≡ true → script_says s x → replay_says bytes x

@@ -6,7 +6,7 @@ use Rattle.run_grammar.specs.declared.answer.Entry.{Entry}
 use Rattle.orchestrate.specs.Handing.{HandedOn}
 use Rattle.orchestrate.specs.Script.{Spelled}
 use Rattle.orchestrate.specs.ScriptValue.{ScriptValue}
-use Rattle.runcheck.specs.declared.ending.Ending.{Ending}
+use Rattle.run_print.specs.declared.ending.Ending.{Ending}
 
 -- from an empty log on, the log is spelled by the answers that were there
 pub spelled_whole : (v w : ScriptValue) (before log : List Entry) → HandedOn (λ u l x. Spelled u.answers l x.answers) v w before log → before ≡ [] → Spelled v.answers log w.answers

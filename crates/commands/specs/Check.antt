@@ -1,10 +1,10 @@
 -- What `check` says of its input.
 use Rattle.std.specs.Prelude.{ℕ, ◌≡◌, List, [], ◌∷◌, codes}
 use Rattle.json_forms.specs.Prints.{row}
-use Rattle.run_check.specs.Reach.{Reach}
-use Rattle.run_check.specs.declared.judge.Verdict.{Verdict}
-use Rattle.run_check.specs.declared.judge.Verdict.TheVariants as verdicts
-use Rattle.runcheck.specs.Print.{line}
+use Rattle.runcheck.specs.Reach.{Reach}
+use Rattle.runcheck.specs.declared.judge.Verdict.{Verdict}
+use Rattle.runcheck.specs.declared.judge.Verdict.TheVariants as verdicts
+use Rattle.run_print.specs.Print.{line}
 use Rattle.serde_json.specs.Data.{string}
 use Rattle.shell.specs.Said.{Said, prints, refuses}
 use Rattle.shell.specs.declared.status.PrintStatus.TheVariants as outcomes

@@ -1,8 +1,8 @@
 -- What the bytes of a script determine.
 use Rattle.std.specs.Prelude.{ℕ, ◌≡◌, ◌≤◌, Bool, true, false, List, Some, codes, length}
-use Rattle.run_check.specs.Reach.{Reach}
-use Rattle.scripts.specs.Replay.{IsScript, is_within}
-use Rattle.scripts.specs.declared.replay.Script.{Script}
+use Rattle.runcheck.specs.Reach.{Reach}
+use Rattle.replay_script.specs.Replay.{IsScript, is_within}
+use Rattle.replay_script.specs.declared.replay.Script.{Script}
 use Rattle.shell.specs.Determined.{is_answer}
 use Rattle.shell.specs.Said.{Said, prints}
 use Rattle.shell.specs.Shell.{Served}

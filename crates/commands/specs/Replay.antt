@@ -4,11 +4,11 @@ use Rattle.json_back.specs.Lines.{are_readable}
 use Rattle.orchestrate.specs.Script.{Spelled}
 use Rattle.orchestrate.specs.declared.script.ScriptAnswer.{ScriptAnswer}
 use Rattle.run_grammar.specs.declared.answer.Entry.{Entry}
-use Rattle.runcheck.specs.Endings.{Ends}
-use Rattle.runcheck.specs.Print.{run_data, run_text}
-use Rattle.runcheck.specs.declared.ending.Ending.{Ending}
-use Rattle.scripts.specs.Replay.{IsScript, is_within, script_spellable}
-use Rattle.scripts.specs.declared.replay.Script.{Script}
+use Rattle.run_print.specs.Endings.{Ends}
+use Rattle.run_print.specs.Print.{run_data, run_text}
+use Rattle.run_print.specs.declared.ending.Ending.{Ending}
+use Rattle.replay_script.specs.Replay.{IsScript, is_within, script_spellable}
+use Rattle.replay_script.specs.declared.replay.Script.{Script}
 use Rattle.shell.specs.Said.{Said, prints, refuses}
 use Rattle.shell.specs.declared.status.PrintStatus.{PrintStatus}
 use Rattle.shell.specs.declared.status.Refusal.TheVariants as refusals

@@ -4,7 +4,7 @@ ghost use Rattle.shell.specs.Said.{prints, said};
 ghost use Rattle.commands.specs.Check.{line_of, verdict_says};
 
 use json_forms::Json;
-use run_check::{Verdict, check};
+use runcheck::{Verdict, check};
 use shell::command::{Answer, Command};
 use shell::status::PrintStatus;
 use smithy_types::OutOfMemory;

@@ -1,16 +1,16 @@
 //! The command that replays one run from a script of answers.
 ghost use Rattle.std.specs.Prelude.{◌≡◌, [], true, false, IfOk};
 ghost use Rattle.orchestrate.specs.Script.{Spelled};
-ghost use Rattle.runcheck.specs.Endings.{Ends};
-ghost use Rattle.scripts.specs.Replay.{IsScript};
+ghost use Rattle.run_print.specs.Endings.{Ends};
+ghost use Rattle.replay_script.specs.Replay.{IsScript};
 ghost use Rattle.shell.specs.Said.{said};
 ghost use Rattle.commands.specs.Replay.{IsReplay, script_says};
 
 use json_forms::ReadError;
 use orchestrate::ScriptWorld;
-use runcheck::print::print_run;
-use runcheck::{Ending, RunHead};
-use scripts::replay::{Script, is_within, read_script};
+use replay_script::replay::{Script, is_within, read_script};
+use run_print::print::print_run;
+use run_print::{Ending, RunHead};
 use shell::command::{Answer, Command};
 use shell::status::{PrintStatus, Refusal};
 use smithy_types::{OutOfMemory, Text};

@@ -8,9 +8,9 @@ use Rattle.orchestrate.specs.declared.execution.InvokeError.{InvokeError}
 use Rattle.orchestrate.specs.declared.execution.InvokeError.TheVariants as invoke_errors
 use Rattle.run_grammar.specs.Standing.{start}
 use Rattle.run_grammar.specs.declared.answer.Entry.{Entry}
-use Rattle.runcheck.specs.Endings.{EndsBy, ending_of, stopped_ending_of}
-use Rattle.runcheck.specs.declared.ending.Ending.{Ending}
-use Rattle.runcheck.specs.declared.head.RunHead.{RunHead}
+use Rattle.run_print.specs.Endings.{EndsBy, ending_of, stopped_ending_of}
+use Rattle.run_print.specs.declared.ending.Ending.{Ending}
+use Rattle.run_print.specs.declared.head.RunHead.{RunHead}
 use Rattle.smithy_context.specs.declared.context.InterceptorContext.{InterceptorContext}
 use Rattle.smithy_types.specs.declared.kinds.StopPoint.{StopPoint}
 use Rattle.smithy_types.specs.declared.kinds.StopPoint.TheVariants as stops

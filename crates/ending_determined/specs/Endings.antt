@@ -1,9 +1,9 @@
 -- How a run ends is determined.
 use Rattle.std.specs.Prelude.{◌≡◌, List, []}
 use Rattle.run_grammar.specs.declared.answer.Entry.{Entry}
-use Rattle.runcheck.specs.Endings.{EndsBy}
-use Rattle.runcheck.specs.declared.ending.Ending.{Ending}
-use Rattle.runcheck.specs.declared.head.RunHead.{RunHead}
+use Rattle.run_print.specs.Endings.{EndsBy}
+use Rattle.run_print.specs.declared.ending.Ending.{Ending}
+use Rattle.run_print.specs.declared.head.RunHead.{RunHead}
 use Rattle.smithy_types.specs.declared.kinds.StopPoint.{StopPoint}
 
 -- a run of one head, up to one point, with the same entries ends in one way

@@ -3,7 +3,7 @@ use Rattle.std.proofs.Common.{◌≡◌, ◌∙◌, refl, sym, ap, ℕ, zero, su
 use Rattle.std.specs.Prelude.{Option, unwrap_or, slice_index_or}
 use Rattle.std.specs.List.{AllByRecursion}
 use Rattle.cell_quota.specs.Fleet.{Each}
-use Rattle.runcheck.specs.Print.{line}
+use Rattle.run_print.specs.Print.{line}
 use Rattle.shell.specs.declared.status.PrintStatus.{PrintStatus}
 use Rattle.shell.specs.declared.status.PrintStatus.TheVariants as outcomes
 use Rattle.fleet_command.specs.Print.{IsTold, TellsAll, TellsOne, caller_data, callers_text, latest, outcome_in, text_in}

@@ -13,8 +13,8 @@ use Rattle.identity_cell.specs.declared.no_auth.NoAuthIdentityResolver.{NoAuthId
 use Rattle.operation_builder.specs.declared.scheme.IdentityResolver.{IdentityResolver}
 use Rattle.operation_builder.specs.declared.scheme.Scheme.{Scheme}
 use Rattle.run_grammar.specs.declared.answer.Entry.{Entry}
-use Rattle.runcheck.specs.Endings.{Ends}
-use Rattle.runcheck.specs.declared.ending.Ending.{Ending}
+use Rattle.run_print.specs.Endings.{Ends}
+use Rattle.run_print.specs.declared.ending.Ending.{Ending}
 use Rattle.scripted.specs.Makes.{Makes}
 use Rattle.scripted.specs.declared.records.IdentityRecord.{IdentityRecord}
 use Rattle.scripted.specs.declared.scripted_outside.ScriptedOutside.{ScriptedOutside}

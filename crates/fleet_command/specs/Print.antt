@@ -3,7 +3,7 @@ use Rattle.std.specs.Prelude.{◌≡◌, ℕ, ◌+◌, List, [], ◌∷◌, ◌+
 use Rattle.std.specs.List.{AllByRecursion}
 use Rattle.client_runs.specs.Print.{bucket_data}
 use Rattle.json_forms.specs.Prints.{row, num}
-use Rattle.runcheck.specs.Print.{line}
+use Rattle.run_print.specs.Print.{line}
 use Rattle.serde_json.specs.Data.{Data, string}
 use Rattle.shell.specs.declared.status.PrintStatus.{PrintStatus}
 use Rattle.shell.specs.declared.status.PrintStatus.TheVariants as outcomes

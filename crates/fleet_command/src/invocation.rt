@@ -18,7 +18,7 @@ use retry_parts::TakeOffer;
 use retry_policy::ClassifyRetry;
 use retry_quota::Quota;
 use run_grammar::Entry;
-use runcheck::Ending;
+use run_print::Ending;
 use scripted::IdentityRecord;
 use shell::status::PrintStatus;
 use smithy_types::{List, OutOfMemory, Shared};

@@ -1,6 +1,8 @@
-pub mod Lines
-pub mod Stopped
-pub mod Depths
-pub mod Readable
-pub mod PlainLines
-pub mod Transmits
+pub mod Between
+pub mod Following
+pub mod Endings
+pub mod Reaching
+pub mod ToldAnswers
+pub mod ToldPrints
+pub mod Ended
+pub mod LineByLine

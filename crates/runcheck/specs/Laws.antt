@@ -1,30 +1,31 @@
--- What holds of every ending of a run.
-use Rattle.std.specs.Prelude.{◌≡◌, ℕ, true, List, [], ◌∷◌, ◌++◌, Option, is_some}
-use Rattle.json_forms.specs.Prints.{row}
-use Rattle.smithy_types.specs.declared.http.HttpRequest.{HttpRequest}
-use Rattle.smithy_types.specs.declared.kinds.StopPoint.{StopPoint}
-use Rattle.smithy_types.specs.declared.payload.Payload.{Payload}
-use Rattle.run_grammar.specs.declared.answer.Answer.TheVariants as answers
+-- What holds of prints.
+use Rattle.std.specs.Prelude.{ℕ, ◌≡◌, List, []}
+use Rattle.run_grammar.specs.Laws.{EachFits}
+use Rattle.run_grammar.specs.Standing.{standing, start}
 use Rattle.run_grammar.specs.declared.answer.Entry.{Entry}
-use Rattle.run_grammar.specs.declared.kind.Kind.TheVariants as kinds
-use Rattle.run_grammar.specs.Entry.{kind_of}
-use Rattle.run_grammar.specs.Laws.{Begins}
-use Rattle.run_grammar.specs.Standing.{start}
-use Rattle.value_json.specs.Values.{request_data}
-use Rattle.runcheck.specs.Print.{entry_data, entry_parts}
-use Rattle.runcheck.specs.Endings.{Ends}
-use Rattle.runcheck.specs.declared.ending.Ending.TheVariants as endings
-use Rattle.runcheck.specs.declared.head.RunHead.{RunHead}
+use Rattle.run_print.specs.Endings.{Ends}
+use Rattle.run_print.specs.Print.{run_text}
+use Rattle.run_print.specs.declared.ending.Ending.{Ending}
+use Rattle.run_print.specs.declared.ending.Ending.TheVariants as endings
+use Rattle.run_print.specs.declared.head.RunHead.{RunHead}
+use Rattle.runcheck.specs.Carried.{IsCarried}
+use Rattle.runcheck.specs.Follow.{calls_of}
+use Rattle.runcheck.specs.Reach.{IsPrintOf, Reach, whole_ending}
+use Rattle.runcheck.specs.Told.{IsTold}
 
--- A run that ends at its stop point leaves a request.
-abbrev pub StoppedWithRequest : Type 0
-StoppedWithRequest = (head : RunHead) (log : List Entry) (request : Option HttpRequest) → Ends head [] log (endings.Stopped request) → is_some request ≡ true
+-- A print that is carried is read as what it was printed for, however the run ended.
+abbrev pub PrintsAreTold : Type 0
+PrintsAreTold = (head : RunHead) (log : List Entry) (e : Ending) → EachFits log → IsCarried head log e → IsTold (run_text head log e) (record { head = head; calls = calls_of log })
 
--- the line of an entry has four parts, of which the last is the request that was handed
-abbrev pub ShowsRequest : ℕ → Entry → Type 0
-ShowsRequest n e = (request : HttpRequest) × (entry_data n e ≡ row (entry_parts n e ++ request_data request ∷ []))
+-- The print of a whole run of at most its fuel is in reach, where it is carried.
+abbrev pub WholeRunsAreReached : Type 0
+WholeRunsAreReached = (head : RunHead) (log : List Entry) (text : List ℕ) → IsPrintOf head log text
+    → IsCarried head log (whole_ending head (standing (start head.input) log).context.context) → Reach text
 
--- each Transmit of a list that begins a run, once it isn't pending
-abbrev pub TransmitsShowRequests : Type 0
-TransmitsShowRequests = (stop : StopPoint) (p : Payload) (before : List Entry) (e : Entry) (n : ℕ) → Begins stop (start p) (before ++ e ∷ []) →
-    kind_of e ≡ kinds.Transmit → (e.answer ≡ answers.Pending → ⊥) → ShowsRequest n e
+-- What an operation's run prints is in reach, unless its fuel was used up.
+abbrev pub EndedRunsAreReached : Type 0
+EndedRunsAreReached = (head : RunHead) (log : List Entry) (e : Ending) → Ends head [] log e → (e ≡ endings.Unfinished → ⊥) → IsCarried head log e → Reach (run_text head log e)
+
+-- What is printed where the fuel was used up is not.
+abbrev pub UnfinishedRunsAreNot : Type 0
+UnfinishedRunsAreNot = (head : RunHead) (log : List Entry) → Ends head [] log endings.Unfinished → IsCarried head log endings.Unfinished → Reach (run_text head log endings.Unfinished) → ⊥

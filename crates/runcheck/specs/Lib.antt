@@ -1,4 +1,7 @@
-pub mod Endings
-pub mod Print
+pub mod Failing
+pub mod Told
+pub mod Follow
+pub mod Taken
+pub mod Reach
+pub mod Carried
 pub mod Laws
-pub mod Plain

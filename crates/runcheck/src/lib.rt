@@ -1,11 +1,12 @@
-//! The print of a run: the line that it is begun with, a line for each entry, and the last line.
+//! Tells whether a text is the print of a whole run and of its answer. The text is read line by
+//! line, its calls are followed along the grammar, and what they come to is printed again.
 #![tactic(auto)]
 
 pub mod ending;
-pub mod head;
+pub mod failing;
+pub mod follow;
+pub mod judge;
 pub mod laws;
-mod plain;
-pub mod print;
+pub mod told;
 
-pub use ending::Ending;
-pub use head::RunHead;
+pub use judge::{Verdict, check};

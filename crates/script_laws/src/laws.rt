@@ -2,7 +2,7 @@
 //! a point or an exponent, of -0, and of an integer beyond 64 bits. Each law is the contract of a
 //! function without a body.
 ghost use Rattle.script_laws.specs.Floats.{FloatsSpellNothing};
-ghost use Rattle.scripts.specs.Replay as replay;
+ghost use Rattle.replay_script.specs.Replay as replay;
 ghost use Rattle.wait_script.specs.Script as wait;
 ghost use Rattle.waiters_script.specs.Script as waiters;
 

@@ -8,9 +8,9 @@ use Rattle.run_grammar.specs.declared.answer.Entry.{Entry}
 use Rattle.orchestrate.specs.declared.execution.InvokeError.{InvokeError}
 use Rattle.orchestrate.specs.declared.execution.InvokeError.TheVariants as invoke_errors
 use Rattle.orchestrate.specs.Handing.{HadMemory, HandedOn}
-use Rattle.runcheck.specs.Endings.{ending_of, stopped_ending_of}
-use Rattle.runcheck.specs.declared.ending.Ending.{Ending}
-use Rattle.runcheck.specs.declared.head.RunHead.{RunHead}
+use Rattle.run_print.specs.Endings.{ending_of, stopped_ending_of}
+use Rattle.run_print.specs.declared.ending.Ending.{Ending}
+use Rattle.run_print.specs.declared.head.RunHead.{RunHead}
 
 -- a run that has an ending didn't run out of memory
 pub ended_had_memory : (s : RunHead) (r : Result Payload (InvokeError Payload)) (e : Ending) → ending_of s r ≡ Some e → HadMemory r

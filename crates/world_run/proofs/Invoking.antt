@@ -11,9 +11,9 @@ use Rattle.orchestrate.specs.declared.execution.InvokeError.{InvokeError}
 use Rattle.orchestrate.specs.declared.execution.InvokeError.TheVariants as invoke_errors
 use Rattle.orchestrate.specs.Answered.{InputAnswered, OperationAnswered, PayloadAnswered, ReadsError}
 use Rattle.orchestrate.specs.Handing.{HadMemory}
-use Rattle.runcheck.specs.Endings.{ending_of, Ends, EndsBy}
-use Rattle.runcheck.specs.declared.ending.Ending.{Ending}
-use Rattle.runcheck.specs.declared.head.RunHead.{RunHead}
+use Rattle.run_print.specs.Endings.{ending_of, Ends, EndsBy}
+use Rattle.run_print.specs.declared.ending.Ending.{Ending}
+use Rattle.run_print.specs.declared.head.RunHead.{RunHead}
 use Rattle.world_run.proofs.HadMemories.{ended_had_memory}
 
 -- a payload is a value of its own, and each one is accepted

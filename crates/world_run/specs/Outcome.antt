@@ -1,6 +1,6 @@
 -- What the ending of a run comes to.
-use Rattle.runcheck.specs.declared.ending.Ending.{Ending}
-use Rattle.runcheck.specs.declared.ending.Ending.TheVariants as endings
+use Rattle.run_print.specs.declared.ending.Ending.{Ending}
+use Rattle.run_print.specs.declared.ending.Ending.TheVariants as endings
 use Rattle.shell.specs.declared.status.PrintStatus.{PrintStatus}
 use Rattle.shell.specs.declared.status.PrintStatus.TheVariants as outcomes
 

@@ -3,11 +3,11 @@
 
 ghost use Rattle.std.specs.Prelude.{◌≡◌, IfOk, OnOk};
 ghost use Rattle.orchestrate.specs.Handing.{HandedOn};
-ghost use Rattle.runcheck.specs.Endings.{Ends};
+ghost use Rattle.run_print.specs.Endings.{Ends};
 ghost use Rattle.world_run.specs.Outcome.{came_to};
 
 use orchestrate::{Operation, World, invoke_with_stop_point};
-use runcheck::{Ending, RunHead};
+use run_print::{Ending, RunHead};
 use shell::status::PrintStatus;
 use smithy_types::{OutOfMemory, Payload, StopPoint};
 use std::alloc::Global;

@@ -4,8 +4,8 @@ use Rattle.json_back.specs.Lines.{are_readable}
 use Rattle.run_grammar.specs.declared.answer.Entry.{Entry}
 use Rattle.orchestrate.specs.declared.script.ScriptAnswer.{ScriptAnswer}
 use Rattle.orchestrate.specs.Script.{Spelled}
-use Rattle.runcheck.specs.Endings.{Ends}
-use Rattle.runcheck.specs.Print.{run_data, run_text}
+use Rattle.run_print.specs.Endings.{Ends}
+use Rattle.run_print.specs.Print.{run_data, run_text}
 use Rattle.commands.proofs.replay.print_of_script.Goals as goal
 
 pub returns : goal.returns

@@ -1,6 +1,0 @@
-use Rattle.std.proofs.Common.{drop}
-use Rattle.run_check.proofs.Following.{Along}
-use Rattle.run_check.proofs.follow.follow.Given as goal
-
-abbrev pub invariant-loop-call : goal.invariant-loop-call
-invariant-loop-call l = Along l.fn.stop l.fn.input l.calls l.walk l.standing l.entries.items (drop l.call-index l.calls)

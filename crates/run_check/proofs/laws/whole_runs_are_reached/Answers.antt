@@ -1,5 +1,0 @@
-use Rattle.run_check.proofs.Ended.{whole_reached}
-use Rattle.run_check.proofs.laws.whole_runs_are_reached.Goals as goal
-
-pub returns : goal.returns
-returns c = whole_reached

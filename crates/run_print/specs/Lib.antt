@@ -1,0 +1,4 @@
+pub mod Endings
+pub mod Print
+pub mod Laws
+pub mod Plain

@@ -1,0 +1,11 @@
+//! The print of a run: the line that it is begun with, a line for each entry, and the last line.
+#![tactic(auto)]
+
+pub mod ending;
+pub mod head;
+pub mod laws;
+mod plain;
+pub mod print;
+
+pub use ending::Ending;
+pub use head::RunHead;
