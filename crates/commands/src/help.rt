@@ -18,7 +18,8 @@ A command reads its script from standard input and prints to standard output.
 
 Exit statuses:
 
-  0   done: the last answer is an output, or the request at the stop point
+  0   done; the last answer of a run, if there is one, is an output or the
+      request at the stop point
   1   the words are no command
   2   the input is no script of the command
   3   the input could not be read

@@ -1,4 +1,4 @@
-//! The readers of scripts, one module a command, and their limits.
+//! The reader of the script of `replay`, and its limits.
 #![tactic(auto)]
 
 pub mod limits;

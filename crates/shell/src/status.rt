@@ -6,7 +6,8 @@ ghost use Rattle.shell.specs.Status.{shell_status};
 /// How the program ended. Its number is the exit status.
 #[derive(Clone, Copy, Debug, PartialEq, Eq)]
 pub enum Status {
-    /// The command was done: the last answer is an output, or the request at a stop point.
+    /// The command was done. The last answer of a run, where there is one, is an output, or the
+    /// request at a stop point.
     Ok,
     /// The words aren't a command.
     BadWords,
@@ -37,7 +38,8 @@ pub enum Status {
 /// What a whole print came to, by the command's own measure.
 #[derive(Clone, Copy, Debug, PartialEq, Eq)]
 pub enum PrintStatus {
-    /// The command was done: the last answer is an output, or the request at a stop point.
+    /// The command was done. The last answer of a run, where there is one, is an output, or the
+    /// request at a stop point.
     Ok,
     /// The last answer is an error of the operation.
     SdkError,
