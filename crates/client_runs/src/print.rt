@@ -49,9 +49,9 @@ fn print_begin(alloc: Global, number: u64, client: usize) -> Result<Json, OutOfM
     )
 }
 
-// A bucket's number and its sums.
+/// A bucket's number and its sums.
 #[tactic(auto, unfolding(crate::specs::Print::bucket_data))]
-fn print_bucket(alloc: Global, number: u32, sums: Sums) -> Result<Json, OutOfMemory>
+pub fn print_bucket(alloc: Global, number: u32, sums: Sums) -> Result<Json, OutOfMemory>
     ensures { IfOk result (λ j. data_of j ≡ bucket_data number sums) }
 {
     let tag = Json::text(alloc, "bucket")?;

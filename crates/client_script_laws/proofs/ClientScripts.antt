@@ -5,7 +5,7 @@ use Rattle.serde_json.specs.Find.{get_member}
 use Rattle.json_forms.specs.Plain.{number_at, number_below}
 use Rattle.json_forms.specs.Reading.{◌>>=◌}
 use Rattle.value_json.proofs.SpelledForms.{Holds, step, weaker}
-use Rattle.outside_scripts.specs.Words.{words_at}
+use Rattle.script_forms.specs.Words.{words_at}
 use Rattle.client_scripts.specs.Buckets.{buckets_at}
 use Rattle.client_scripts.specs.Clients.{clients_at}
 use Rattle.client_scripts.specs.Invocations.{invocation_at, invocations_at, run_at}

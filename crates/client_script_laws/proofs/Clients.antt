@@ -16,7 +16,8 @@ use Rattle.outside_scripts.specs.Responses.{records_at}
 use Rattle.client_scripts.specs.Auth.{auth_at, auth_schemes_at, cache_at, lazy_at, unsigned}
 use Rattle.client_scripts.specs.Buckets.{bucket_terms_at, buckets_at}
 use Rattle.client_scripts.specs.Clients.{client_at, client_members, clients_at, flags_at, rules_at, target_at, text_member}
-use Rattle.client_scripts.specs.Invocations.{run_at, stop_at}
+use Rattle.script_forms.specs.Stop.{stop_at}
+use Rattle.client_scripts.specs.Invocations.{run_at}
 use Rattle.client_scripts.specs.Members.{members_at}
 use Rattle.client_scripts.specs.Retries.{classifier_at, classifiers_at, code_at, retry_choice_at}
 use Rattle.client_scripts.specs.Schemes.{api_key_at, http_scheme_at, http_schemes_at, http_schemes_of, is_alone, location_at, null_at, only_says, placed, prefix_at}

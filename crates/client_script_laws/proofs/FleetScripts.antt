@@ -6,7 +6,7 @@ use Rattle.json_forms.specs.Lists.{list_of}
 use Rattle.json_forms.specs.Plain.{number_at}
 use Rattle.json_forms.specs.Reading.{◌>>=◌}
 use Rattle.value_json.proofs.SpelledForms.{Holds, step, weaker}
-use Rattle.outside_scripts.specs.Words.{words_at}
+use Rattle.script_forms.specs.Words.{words_at}
 use Rattle.client_scripts.specs.Buckets.{bucket_terms_at}
 use Rattle.client_scripts.specs.Clients.{client_at}
 use Rattle.client_scripts.specs.Invocations.{run_at}

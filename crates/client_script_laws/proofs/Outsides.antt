@@ -9,7 +9,7 @@ use Rattle.value_json.specs.SettingReadings.{or_read}
 use Rattle.value_json.proofs.SpelledForms.{Holds, past, step}
 use Rattle.outside_scripts.specs.Identities.{failed_identity_at, identity_answer_at, identity_record_at, loaded_at, sources_at}
 use Rattle.outside_scripts.specs.Responses.{answered_record_at, failed_record_at, frame_at, frames_at, may_repeat, records_at, response_at, response_record_at}
-use Rattle.outside_scripts.specs.Words.{words_at}
+use Rattle.script_forms.specs.Words.{words_at}
 use Rattle.script_laws.proofs.PlainForms.{Plain, Refuses, below_plain, blob_plain, bool_plain, kept, number_plain, optional_plain, pair_plain, part, rows_plain, sextuple_plain, str_plain, triple_plain, word_plain}
 use Rattle.script_laws.proofs.PlainValues.{connector_plain, headers_plain, identity_plain}
 

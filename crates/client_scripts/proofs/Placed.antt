@@ -13,11 +13,12 @@ use Rattle.value_json.specs.Readings.{payload_at}
 use Rattle.value_json.specs.SettingReadings.{timeouts_at, stall_at}
 use Rattle.value_json.proofs.SpelledForms.{Holds, held, step, past, mapped, weaker, number_within}
 use Rattle.outside_scripts.specs.Responses.{records_at}
-use Rattle.outside_scripts.specs.Words.{words_at}
+use Rattle.script_forms.specs.Words.{words_at}
 use Rattle.client_scripts.specs.Auth.{auth_at}
 use Rattle.client_scripts.specs.Buckets.{buckets_at}
 use Rattle.client_scripts.specs.Clients.{flags_at, rules_at, target_at, client_members, client_at, clients_at}
-use Rattle.client_scripts.specs.Invocations.{stop_at, run_at, invocation_at, invocations_at}
+use Rattle.script_forms.specs.Stop.{stop_at}
+use Rattle.client_scripts.specs.Invocations.{run_at, invocation_at, invocations_at}
 use Rattle.client_scripts.specs.Members.{members_at}
 use Rattle.client_scripts.specs.Placed.{RulesHaveBucket, HasBucket, HasClient, IsPlaced}
 use Rattle.client_scripts.specs.Retries.{retry_choice_at, classifiers_at}

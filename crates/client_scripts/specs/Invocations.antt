@@ -1,20 +1,15 @@
 -- Which invocations a script spells.
 use Rattle.std.specs.Prelude.{ℕ, List, Option, Some, codes}
 use Rattle.serde_json.specs.Data.{Data}
-use Rattle.serde_json.specs.Find.{as_array, as_str, get}
-use Rattle.json_forms.specs.Forms.{named}
+use Rattle.serde_json.specs.Find.{as_array, get}
 use Rattle.json_forms.specs.Lists.{list_of}
 use Rattle.json_forms.specs.Plain.{number_at, number_below}
 use Rattle.json_forms.specs.Reading.{◌>>=◌}
-use Rattle.smithy_types.specs.declared.kinds.StopPoint.{StopPoint}
-use Rattle.value_json.specs.Names.{stop_text, stop_points}
 use Rattle.value_json.specs.Readings.{payload_at}
+use Rattle.script_forms.specs.Stop.{stop_at}
 use Rattle.outside_scripts.specs.Responses.{records_at}
 use Rattle.client_scripts.specs.Members.{members_at}
 use Rattle.client_scripts.specs.declared.terms.InvocationRecord.{InvocationRecord}
-
-unfoldable pub stop_at : Data → Option StopPoint
-stop_at d = as_str d >>= named stop_text stop_points
 
 -- the members that say what a client is asked to do
 unfoldable pub run_at : ℕ → Data → Option InvocationRecord

@@ -9,7 +9,7 @@ ghost use Rattle.client_scripts.specs.Clients.{flags_at, rules_at, text_member, 
 ghost use Rattle.client_scripts.specs.Clients.{client_members, client_at, clients_at};
 
 use crate::auth::read_auth;
-use crate::members::{only_members, read_optional_place};
+use crate::members::{exact_members, read_optional_place};
 use crate::retries::{read_classifiers, read_retry_choice};
 use crate::schemes::read_http_schemes;
 use crate::terms::{ClientFlags, ClientObject, ClientRules, ClientTarget};
@@ -110,7 +110,7 @@ fn client_members(value: &Value) -> usize
 pub fn read_client(alloc: Global, buckets: usize, value: &Value) -> Result<ClientObject, ReadError>
     ensures { Reads result (client_at buckets (view value.now)) }
 {
-    only_members(alloc, client_members(value), value)?;
+    exact_members(alloc, client_members(value), value)?;
     let rules = read_rules(buckets, value)?;
     let target = read_target(alloc, value)?;
     let classifiers = read_classifiers(alloc, read::member(value, "classifiers")?)?;

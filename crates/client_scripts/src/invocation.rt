@@ -3,30 +3,19 @@ ghost use Rattle.std.specs.Prelude.{◌≡◌};
 ghost use Rattle.json_forms.specs.View.{view, items_view};
 ghost use Rattle.json_forms.specs.Lists.{list_of};
 ghost use Rattle.json_forms.specs.Reading.{Reads};
-ghost use Rattle.client_scripts.specs.Invocations.{stop_at, run_at, invocation_at, invocations_at};
+ghost use Rattle.client_scripts.specs.Invocations.{run_at, invocation_at, invocations_at};
 
-use crate::members::{only_members, read_place};
+use crate::members::{exact_members, read_place};
 use crate::terms::InvocationRecord;
 use json_forms::{ReadError, Value, read};
 use outside_scripts::read_records;
-use smithy_types::{List, StopPoint};
+use script_forms::read_stop;
+use smithy_types::List;
 use std::alloc::Global;
 use value_json::http::read_payload;
-use value_json::names::stop_named;
 
 /// How many members an invocation has.
 const INVOCATION_MEMBERS: usize = 5;
-
-// A stop point.
-#[tactic(auto, unfolding(crate::specs::Invocations::stop_at))]
-fn read_stop(value: &Value) -> Result<StopPoint, ReadError>
-    ensures { Reads result (stop_at (view value.now)) }
-{
-    match stop_named(read::str(value)?) {
-        Some(stop) => Ok(stop),
-        None => Err(ReadError::Refused),
-    }
-}
 
 /// An invocation of this client, of the members that say what is run.
 #[tactic(auto, unfolding(crate::specs::Invocations::run_at))]
@@ -55,7 +44,7 @@ pub fn read_invocation(
 ) -> Result<InvocationRecord, ReadError>
     ensures { Reads result (invocation_at clients (view value.now)) }
 {
-    only_members(alloc, INVOCATION_MEMBERS, value)?;
+    exact_members(alloc, INVOCATION_MEMBERS, value)?;
     let client = read_place(clients, read::member(value, "client")?)?;
     read_run(alloc, client, value)
 }

@@ -10,16 +10,15 @@ use crate::terms::{
     AuthChoice, AuthSchemes, BucketTerms, ClientObject, HttpSchemeChoice, InvocationRecord,
 };
 use outside_scripts::{records_fit, sources_fit};
-use script_forms::{left_of, optional_text_fits, optional_texts_fit, text_fits, texts_fit};
+use script_forms::{
+    FUEL_LIMIT, left_of, optional_text_fits, optional_texts_fit, text_fits, texts_fit,
+};
 
 /// The most tokens of a bucket.
 const CAPACITY_LIMIT: u64 = 500_000_000;
 
 /// The most invocations of a script.
 const INVOCATION_LIMIT: usize = 10_000;
-
-/// The most fuel of a script's invocations together.
-const FUEL_LIMIT: u64 = 100_000;
 
 /// Whether a bucket's capacity is within its limit.
 #[tactic(auto, unfolding(crate::specs::Limits::capacity_fits))]

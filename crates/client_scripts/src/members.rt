@@ -12,7 +12,7 @@ use std::alloc::Global;
 
 /// An object with so many members.
 #[tactic(auto, unfolding(crate::specs::Members::members_at))]
-pub fn only_members(alloc: Global, count: usize, value: &Value) -> Result<(), ReadError>
+pub fn exact_members(alloc: Global, count: usize, value: &Value) -> Result<(), ReadError>
     ensures { Reads result (members_at count (view value.now)) }
 {
     has_members(alloc, count, read::members(value)?)

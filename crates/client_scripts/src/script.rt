@@ -8,10 +8,10 @@ ghost use Rattle.client_scripts.specs.Script.{client_script_at, IsClientScript};
 use crate::buckets::read_buckets;
 use crate::client::read_clients;
 use crate::invocation::read_invocations;
-use crate::members::only_members;
+use crate::members::exact_members;
 use crate::terms::{BucketTerms, ClientObject, InvocationRecord};
 use json_forms::{Arena, ReadError, Value, read};
-use outside_scripts::read_words;
+use script_forms::read_words;
 use smithy_types::List;
 use std::alloc::Global;
 
@@ -50,7 +50,7 @@ pub fn read_client_script(alloc: Global, bytes: &[u8]) -> Result<ClientScript, R
 fn script_in(alloc: Global, value: &Value) -> Result<ClientScript, ReadError>
     ensures { Reads result (client_script_at (view value.now)) }
 {
-    only_members(alloc, SCRIPT_MEMBERS, value)?;
+    exact_members(alloc, SCRIPT_MEMBERS, value)?;
     let start = read::number(read::member(value, "start")?)?;
     let buckets = read_buckets(alloc, read::member(value, "buckets")?)?;
     let words = read_words(alloc, read::member(value, "words")?)?;

@@ -28,6 +28,7 @@ pub enum Command {
     Make {
         /// How many invocations it has.
         count: u64,
+        /// What its generator is seeded with.
         seed: u64,
     },
 }

@@ -1,6 +1,5 @@
 //! The print of callers, and of the bucket that they leave.
 ghost use Rattle.std.specs.Prelude.{◌≡◌, ◌++◌, All, OnOk, IfOk, map};
-ghost use Rattle.client_runs.specs.Print.{bucket_data};
 ghost use Rattle.json_forms.specs.JsonData.{data_of};
 ghost use Rattle.fleet_command.specs.Print.{IsEnded, IsTold, TellsAll, TellsOne, caller_data};
 ghost use Rattle.fleet_command.specs.Print.{history_data, left_text, outcome_in, text_in};
@@ -8,12 +7,12 @@ ghost use Rattle.fleet_command.specs.Print.{history_data, left_text, outcome_in,
 use crate::caller::{CallerState, FleetCaller};
 use crate::gate::Gate;
 use crate::work::Told;
+use client_runs::print::print_bucket;
 use client_runs::set::next;
 use json_forms::Json;
 use shell::status::PrintStatus;
 use smithy_types::{OutOfMemory, Sums};
 use std::alloc::Global;
-use value_json::note::print_sums;
 
 // The line before a caller's invocations.
 #[tactic(auto, unfolding(crate::specs::Print::caller_data))]
@@ -21,16 +20,6 @@ fn print_caller(alloc: Global, number: u64) -> Result<Json, OutOfMemory>
     ensures { IfOk result (λ j. data_of j ≡ caller_data number) }
 {
     Json::pair(alloc, Json::text(alloc, "caller")?, Json::number(number))
-}
-
-// The bucket's number and its sums.
-#[tactic(auto, unfolding(client_runs::specs::Print::bucket_data))]
-fn print_bucket(alloc: Global, sums: Sums) -> Result<Json, OutOfMemory>
-    ensures { IfOk result (λ j. data_of j ≡ bucket_data 0 sums) }
-{
-    let tag = Json::text(alloc, "bucket")?;
-    let sums = print_sums(alloc, sums)?;
-    Json::triple(alloc, tag, Json::number(0), sums)
 }
 
 // How many steps the bucket made.
@@ -50,7 +39,7 @@ pub fn print_left(
 ) -> Result<(), OutOfMemory>
     ensures { OnOk result (out.new.items ≡ out.old.items ++ left_text sums length) }
 {
-    print_bucket(alloc, sums)?.write_line(alloc, out)?;
+    print_bucket(alloc, 0, sums)?.write_line(alloc, out)?;
     print_history(alloc, length)?.write_line(alloc, out)
 }
 

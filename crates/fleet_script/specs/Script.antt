@@ -5,7 +5,7 @@ use Rattle.serde_json.specs.Find.{get}
 use Rattle.serde_json.specs.Read.{read}
 use Rattle.json_forms.specs.Plain.{number_at}
 use Rattle.json_forms.specs.Reading.{◌>>=◌}
-use Rattle.outside_scripts.specs.Words.{words_at}
+use Rattle.script_forms.specs.Words.{words_at}
 use Rattle.client_scripts.specs.Buckets.{bucket_terms_at}
 use Rattle.client_scripts.specs.Members.{members_at}
 use Rattle.fleet_script.specs.Callers.{callers_at}

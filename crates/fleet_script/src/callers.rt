@@ -10,7 +10,7 @@ use crate::terms::CallerRecord;
 use client_scripts::InvocationRecord;
 use client_scripts::client::read_client;
 use client_scripts::invocation::read_run;
-use client_scripts::members::only_members;
+use client_scripts::members::exact_members;
 use json_forms::{ReadError, Value, read};
 use smithy_types::List;
 use std::alloc::Global;
@@ -29,7 +29,7 @@ const BUCKETS: usize = 1;
 fn read_caller_run(alloc: Global, value: &Value) -> Result<InvocationRecord, ReadError>
     ensures { Reads result (caller_run_at (view value.now)) }
 {
-    only_members(alloc, RUN_MEMBERS, value)?;
+    exact_members(alloc, RUN_MEMBERS, value)?;
     read_run(alloc, 0, value)
 }
 
@@ -60,7 +60,7 @@ fn read_caller_runs(alloc: Global, value: &Value) -> Result<List<InvocationRecor
 pub fn read_caller(alloc: Global, value: &Value) -> Result<CallerRecord, ReadError>
     ensures { Reads result (caller_at (view value.now)) }
 {
-    only_members(alloc, CALLER_MEMBERS, value)?;
+    exact_members(alloc, CALLER_MEMBERS, value)?;
     let invocations = read_caller_runs(alloc, read::member(value, "invocations")?)?;
     let client = read_client(alloc, BUCKETS, read::member(value, "client")?)?;
     Ok(CallerRecord {

@@ -7,16 +7,13 @@ ghost use Rattle.fleet_script.specs.Limits.{fleet_script_fits};
 use crate::terms::{CallerRecord, FleetScript};
 use client_scripts::limits::{fuel_left, invocations_fit};
 use client_scripts::{capacity_fits, client_fits};
-use script_forms::left_of;
+use script_forms::{FUEL_LIMIT, left_of};
 
 /// The most callers of a script.
 const CALLER_LIMIT: usize = 16;
 
 /// The most invocations of a script's callers together.
 const INVOCATION_LIMIT: u64 = 10_000;
-
-/// The most fuel of all these invocations together.
-const FUEL_LIMIT: u64 = 100_000;
 
 // Whether a caller's texts and heads are within their limits.
 #[tactic(auto, unfolding(crate::specs::Limits::caller_fits))]

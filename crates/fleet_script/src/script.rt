@@ -8,9 +8,9 @@ ghost use Rattle.fleet_script.specs.Script.{fleet_script_at, IsFleetScript};
 use crate::callers::read_callers;
 use crate::terms::FleetScript;
 use client_scripts::buckets::read_bucket_terms;
-use client_scripts::members::only_members;
+use client_scripts::members::exact_members;
 use json_forms::{Arena, ReadError, Value, read};
-use outside_scripts::read_words;
+use script_forms::read_words;
 use std::alloc::Global;
 
 /// How many members a script has.
@@ -34,7 +34,7 @@ pub fn read_fleet_script(alloc: Global, bytes: &[u8]) -> Result<FleetScript, Rea
 fn script_in(alloc: Global, value: &Value) -> Result<FleetScript, ReadError>
     ensures { Reads result (fleet_script_at (view value.now)) }
 {
-    only_members(alloc, SCRIPT_MEMBERS, value)?;
+    exact_members(alloc, SCRIPT_MEMBERS, value)?;
     let bucket = read_bucket_terms(read::member(value, "bucket")?)?;
     let start = read::number(read::member(value, "start")?)?;
     let words = read_words(alloc, read::member(value, "words")?)?;

@@ -1,4 +1,3 @@
 pub mod Responses
 pub mod Identities
-pub mod Words
 pub mod Limits

@@ -1,13 +1,11 @@
 //! Readers of what a script says of the scripted outside, and what it may hold: the responses of
-//! requests, the sources of identities, and the words that are drawn.
+//! requests, and the sources of identities.
 #![tactic(auto)]
 
 pub mod identities;
 pub mod limits;
 pub mod responses;
-pub mod words;
 
 pub use identities::read_sources;
 pub use limits::{records_fit, sources_fit};
 pub use responses::read_records;
-pub use words::read_words;

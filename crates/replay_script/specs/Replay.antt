@@ -2,18 +2,17 @@
 use Rattle.std.specs.Prelude.{ℕ, ◌≡◌, List, [], ◌∷◌, Bool, ◌&&◌, Option, Some, None, codes, fold, nat_le, length, IsUtf8}
 use Rattle.std.specs.List.{list_all}
 use Rattle.serde_json.specs.Data.{Data, Items}
-use Rattle.serde_json.specs.Find.{get, as_array, as_str}
+use Rattle.serde_json.specs.Find.{get, as_array}
 use Rattle.serde_json.specs.Read.{read}
 use Rattle.smithy_types.specs.declared.kinds.StopPoint.{StopPoint}
 use Rattle.smithy_types.specs.declared.kinds.StopPoint.TheVariants as stops
 use Rattle.smithy_context.specs.declared.setting.SettingKey.{SettingKey}
 use Rattle.orchestrate.specs.declared.script.ScriptAnswer.{ScriptAnswer}
 use Rattle.value_json.specs.AnswerReadings.{kind_at, answer_at}
-use Rattle.json_forms.specs.Forms.{named}
 use Rattle.replay_script.specs.Limits.{answer_fits, layer_keys, with_keys, layer_of_answer}
 use Rattle.json_forms.specs.Lists.{list_of}
 use Rattle.script_forms.specs.Members.{only_among}
-use Rattle.value_json.specs.Names.{stop_text, stop_points}
+use Rattle.script_forms.specs.Stop.{stop_at}
 use Rattle.json_forms.specs.Plain.{number_at, pair_at}
 use Rattle.json_forms.specs.Reading.{◌>>=◌}
 use Rattle.value_json.specs.Readings.{payload_at}
@@ -27,9 +26,6 @@ script_answer_at d = pair_at d >>= λ p. kind_at p.0 >>= λ k. answer_at k p.1 >
 -- the members that a script may have
 unfoldable pub script_members : List (List ℕ)
 script_members = codes "input" ∷ codes "fuel" ∷ codes "stop" ∷ codes "output_kind" ∷ codes "error_kind" ∷ codes "answers" ∷ []
-
-unfoldable pub stop_at : Data → Option StopPoint
-stop_at d = as_str d >>= named stop_text stop_points
 
 -- the stop point, none where it is left out
 abbrev pub stop_of : Option Data → Option StopPoint

@@ -6,24 +6,20 @@ ghost use Rattle.script_forms.specs.Members.{only_among};
 ghost use Rattle.json_forms.specs.Reading.{Gives, Reads};
 ghost use Rattle.serde_json.specs.Find.{get};
 ghost use Rattle.replay_script.specs.Replay.{script_answer_at, script_members, items_at};
-ghost use Rattle.replay_script.specs.Replay.{stop_at, stop_of, script_at, script_spellable, IsScript};
+ghost use Rattle.replay_script.specs.Replay.{stop_of, script_at, script_spellable, IsScript};
 ghost use Rattle.replay_script.specs.Replay.{answers_fit, keys_fit, is_within};
 
 use crate::limits::{add_keys, answer_fits};
-use json_forms::read::{items, member, number, optional_member, pair, str};
+use json_forms::read::{items, member, number, optional_member, pair};
 use json_forms::{Arena, ReadError, Value};
 use orchestrate::ScriptAnswer;
 use run_print::RunHead;
-use script_forms::only_members;
+use script_forms::{FUEL_LIMIT, only_members, read_stop};
 use smithy_context::SettingKey;
 use smithy_types::{List, OutOfMemory, StopPoint};
 use std::alloc::Global;
 use value_json::answer::{read_answer, read_kind};
 use value_json::http::read_payload;
-use value_json::names::stop_named;
-
-/// The most fuel of a script.
-const FUEL_LIMIT: u64 = 100_000;
 
 /// The most different keys that the layers of a script may name.
 const KEY_LIMIT: usize = 64;
@@ -77,16 +73,6 @@ fn stop_in(value: Option<&Value>) -> Result<StopPoint, ReadError>
     match value {
         Some(value) => read_stop(value),
         None => Ok(StopPoint::None),
-    }
-}
-
-#[tactic(auto, unfolding(crate::specs::Replay::stop_at))]
-fn read_stop(value: &Value) -> Result<StopPoint, ReadError>
-    ensures { Reads result (stop_at (view value.now)) }
-{
-    match stop_named(str(value)?) {
-        Some(stop) => Ok(stop),
-        None => Err(ReadError::Refused),
     }
 }
 

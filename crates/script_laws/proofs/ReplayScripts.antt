@@ -8,7 +8,8 @@ use Rattle.json_forms.specs.Reading.{◌>>=◌}
 use Rattle.value_json.specs.AnswerReadings.{answer_at, kind_at}
 use Rattle.value_json.specs.Readings.{payload_at}
 use Rattle.value_json.proofs.SpelledForms.{Holds, step, weaker}
-use Rattle.replay_script.specs.Replay.{script_answer_at, script_at, script_members, stop_at, stop_of}
+use Rattle.script_forms.specs.Stop.{stop_at}
+use Rattle.replay_script.specs.Replay.{script_answer_at, script_at, script_members, stop_of}
 use Rattle.script_laws.specs.Floats.{FloatsSpellNothing}
 use Rattle.script_laws.proofs.Ordered.{is_ordered, ordered_when_read}
 use Rattle.script_laws.proofs.PlainAnswers.{answer_plain, kind_plain}

@@ -8,7 +8,8 @@ use Rattle.json_forms.specs.Plain.{number_at, triple_at}
 use Rattle.json_forms.specs.Reading.{◌>>=◌}
 use Rattle.value_json.specs.Readings.{payload_at}
 use Rattle.value_json.proofs.SpelledForms.{Holds, either, step}
-use Rattle.wait_script.specs.Script.{poll_at, polls_at, result_at, script_at, script_members, some_of, state_at, words_at}
+use Rattle.script_forms.specs.Words.{words_at}
+use Rattle.wait_script.specs.Script.{poll_at, polls_at, result_at, script_at, script_members, some_of, state_at}
 use Rattle.script_laws.specs.Floats.{FloatsSpellNothing}
 use Rattle.script_laws.proofs.Ordered.{is_ordered, ordered_when_read}
 use Rattle.script_laws.proofs.PlainForms.{Plain, Refuses, always, kept, number_plain, part, rows_plain, said_or, str_plain, tagged_plain, triple_plain}

@@ -6,7 +6,8 @@ use Rattle.json_forms.specs.Lists.{list_of}
 use Rattle.json_forms.specs.Plain.{number_at, number_below, sextuple_at}
 use Rattle.json_forms.specs.Reading.{◌>>=◌}
 use Rattle.value_json.proofs.SpelledForms.{Holds, step}
-use Rattle.wait_script.specs.Script.{polls_at, words_at}
+use Rattle.script_forms.specs.Words.{words_at}
+use Rattle.wait_script.specs.Script.{polls_at}
 use Rattle.waiters_script.specs.Members.{script_members, waiter_members}
 use Rattle.waiters_script.specs.Script.{bucket_at, plan_at, script_at, some_of, waiter_at, waiters_at}
 use Rattle.script_laws.specs.Floats.{FloatsSpellNothing}

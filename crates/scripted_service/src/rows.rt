@@ -12,7 +12,8 @@ pub type Row = (u16, &'static str);
 
 /// A service that answers each request by the next of these rows, at once, without headers and with
 /// the body in one frame. Behind the last row a request fails. Its clock is at 0, it has no words
-/// and no identities, and nothing is open. `OutOfMemory` where there is no memory for the responses.
+/// and no identities, and nothing is open. `OutOfMemory` where there is no memory for the
+/// responses.
 pub fn service(alloc: Global, rows: &[Row]) -> Result<ScriptedOutside, OutOfMemory>
     ensures records { IfOk result (λ s. s.records ≡ map record_of rows.now) }
     ensures moment { IfOk result (λ s. s.moment ≡ 0) }

@@ -7,6 +7,7 @@ use Rattle.smithy_types.specs.declared.acceptor.AcceptorState.{AcceptorState}
 use Rattle.json_forms.specs.Forms.{named, says, starts, tagged_at}
 use Rattle.json_forms.specs.Lists.{list_of}
 use Rattle.script_forms.specs.Members.{only_among}
+use Rattle.script_forms.specs.Words.{words_at}
 use Rattle.json_forms.specs.Plain.{number_at, triple_at}
 use Rattle.json_forms.specs.Reading.{◌>>=◌}
 use Rattle.value_json.specs.Readings.{payload_at}
@@ -32,9 +33,6 @@ poll_at d = triple_at d >>= λ p. number_at p.0 >>= λ n. result_at p.1 >>= λ r
 -- the members that a script may have
 unfoldable pub script_members : List (List ℕ)
 script_members = codes "min" ∷ codes "max" ∷ codes "max_wait" ∷ codes "start" ∷ codes "fuel" ∷ codes "words" ∷ codes "polls" ∷ []
-
-unfoldable pub words_at : Data → Option (List ℕ)
-words_at d = as_array d >>= list_of number_at
 
 -- at least one poll
 abbrev pub some_of : List ScriptedPoll → Option (List ScriptedPoll)

@@ -4,4 +4,4 @@
 pub mod script;
 pub mod states;
 
-pub use script::{WaitScript, is_within, read_polls, read_script, read_words};
+pub use script::{WaitScript, is_within, read_polls, read_script};

@@ -3,24 +3,20 @@ ghost use Rattle.std.specs.Prelude.{◌≡◌, [], IfOk, IsErrOf};
 ghost use Rattle.json_forms.specs.View.{view, items_view};
 ghost use Rattle.json_forms.specs.Lists.{list_of};
 ghost use Rattle.script_forms.specs.Members.{only_among};
-ghost use Rattle.json_forms.specs.Plain.{number_at};
 ghost use Rattle.json_forms.specs.Reading.{Reads};
 ghost use Rattle.wait_script.specs.Script.{built_of, is_within, IsBuildable, IsScript, poll_at};
 ghost use Rattle.wait_script.specs.Script.{polls_at, result_at, script_at, script_members};
-ghost use Rattle.wait_script.specs.Script.{some_of, state_at, words_at};
+ghost use Rattle.wait_script.specs.Script.{some_of, state_at};
 
 use crate::states::state_named;
 use json_forms::forms::{read_tagged, says, starts};
 use json_forms::read::{items, member, number, str, triple};
 use json_forms::{Arena, ReadError, Value};
-use script_forms::only_members;
+use script_forms::{FUEL_LIMIT, only_members, read_words};
 use scripted_timers::{PollResult, ScriptedPoll};
 use smithy_types::{AcceptorState, List};
 use std::alloc::Global;
 use value_json::http::read_payload;
-
-/// The most fuel of a script.
-const FUEL_LIMIT: u64 = 100_000;
 
 /// The least delay of a waiter, in nanoseconds.
 const SECOND: u64 = 1_000_000_000;
@@ -103,29 +99,6 @@ fn only_listed(value: &Value) -> Result<(), ReadError>
     )
 }
 
-/// The words that a waiter draws.
-#[tactic(auto, unfolding(crate::specs::Script::words_at))]
-pub fn read_words(alloc: Global, value: &Value) -> Result<List<u64>, ReadError>
-    ensures { Reads result (words_at (view value.now)) }
-{
-    numbers_in(alloc, items(value)?)
-}
-
-// The numbers, in their order.
-#[tactic(auto, using(crate::proofs::Items::item_reading))]
-fn numbers_in(alloc: Global, list: &[Value]) -> Result<List<u64>, ReadError>
-    ensures { Reads result (list_of number_at (items_view list.now)) }
-{
-    let mut numbers = List::new();
-    for value in list {
-        match number(value) {
-            Ok(number) => numbers.push(alloc, number)?,
-            Err(error) => return Err(error),
-        }
-    }
-    Ok(numbers)
-}
-
 /// The polls of a waiter's operation, of which there is one.
 #[tactic(auto, unfolding(crate::specs::Script::polls_at))]
 pub fn read_polls(alloc: Global, value: &Value) -> Result<List<ScriptedPoll>, ReadError>
@@ -146,7 +119,7 @@ fn only_some(polls: List<ScriptedPoll>) -> Result<List<ScriptedPoll>, ReadError>
 }
 
 // The polls, in their order.
-#[tactic(auto, using(crate::proofs::Items::item_reading))]
+#[tactic(auto, using(json_forms::proofs::ReadLists::list_reading))]
 fn polls_in(alloc: Global, list: &[Value]) -> Result<List<ScriptedPoll>, ReadError>
     ensures { Reads result (list_of poll_at (items_view list.now)) }
 {

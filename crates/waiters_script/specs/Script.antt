@@ -10,7 +10,8 @@ use Rattle.json_forms.specs.Plain.{number_at, number_below, sextuple_at}
 use Rattle.json_forms.specs.Reading.{◌>>=◌}
 use Rattle.retry_quota.specs.declared.state.BucketTerms.{BucketTerms}
 use Rattle.scripted_fleet.specs.declared.waiter.ScriptedWaiter.{ScriptedWaiter}
-use Rattle.wait_script.specs.Script.{polls_at, words_at}
+use Rattle.script_forms.specs.Words.{words_at}
+use Rattle.wait_script.specs.Script.{polls_at}
 use Rattle.waiter_fleet.specs.Plans.{is_good}
 use Rattle.waiter_fleet.specs.declared.plan.Plan.{Plan}
 use Rattle.waiters_script.specs.Members.{script_members, waiter_members}

@@ -3,15 +3,11 @@ ghost use Rattle.std.specs.Prelude.{◌≡◌};
 ghost use Rattle.waiters_script.specs.Script.{is_within};
 
 use crate::terms::WaitersScript;
-
-/// The most fuel of a script.
-const FUEL_LIMIT: u64 = 100_000;
+use retry_quota::MAXIMUM_CAPACITY;
+use script_forms::FUEL_LIMIT;
 
 /// The most waiters of a script.
 const WAITERS_LIMIT: usize = 64;
-
-/// The most tokens of its bucket.
-const CAPACITY_LIMIT: u64 = 500_000_000;
 
 /// Whether the fuel, the waiters and the bucket's capacity are within their limits.
 pub fn is_within(script: &WaitersScript) -> bool
@@ -19,5 +15,5 @@ pub fn is_within(script: &WaitersScript) -> bool
 {
     script.fuel <= FUEL_LIMIT
         && script.waiters.len() <= WAITERS_LIMIT
-        && script.bucket.capacity <= CAPACITY_LIMIT
+        && script.bucket.capacity <= MAXIMUM_CAPACITY
 }

@@ -11,10 +11,11 @@ use crate::terms::WaitersScript;
 use json_forms::read::{items, member, number, number_32, sextuple};
 use json_forms::{Arena, ReadError, Value};
 use retry_quota::BucketTerms;
+use script_forms::read_words;
 use scripted_fleet::ScriptedWaiter;
 use smithy_types::List;
 use std::alloc::Global;
-use wait_script::{read_polls, read_words};
+use wait_script::read_polls;
 use waiter_fleet::Plan;
 
 /// The script that the bytes are the text of. Each of its waiters can follow its plan.

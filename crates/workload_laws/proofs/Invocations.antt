@@ -13,7 +13,8 @@ use Rattle.value_json.specs.Readings.{headers_at, payload_at}
 use Rattle.value_json.specs.Values.{payload_data, headers_data}
 use Rattle.value_json.proofs.PrintedForms.{printed_shown}
 use Rattle.outside_scripts.specs.Responses.{answered_record_at, failed_record_at, frame_at, frames_at, may_repeat, records_at, response_at, response_record_at}
-use Rattle.client_scripts.specs.Invocations.{invocation_at, run_at, stop_at}
+use Rattle.script_forms.specs.Stop.{stop_at}
+use Rattle.client_scripts.specs.Invocations.{invocation_at, run_at}
 use Rattle.client_scripts.specs.Members.{members_at}
 use Rattle.client_scripts.specs.declared.terms.InvocationRecord.{InvocationRecord}
 use Rattle.smithy_types.specs.declared.kinds.StopPoint.TheVariants as stops

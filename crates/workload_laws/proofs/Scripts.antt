@@ -10,7 +10,7 @@ use Rattle.json_forms.specs.Prints.{row, is_shown}
 use Rattle.json_forms.specs.Reading.{◌>>=◌}
 use Rattle.value_json.specs.SettingReadings.{mode_at, reconnect_at, retry_at, spec_at, stall_at, timeouts_at}
 use Rattle.value_json.specs.Values.{retry_data, timeouts_data}
-use Rattle.outside_scripts.specs.Words.{words_at}
+use Rattle.script_forms.specs.Words.{words_at}
 use Rattle.client_scripts.specs.Auth.{auth_at}
 use Rattle.client_scripts.specs.Buckets.{bucket_terms_at, buckets_at}
 use Rattle.client_scripts.specs.Clients.{client_at, clients_at, flags_at, rules_at, target_at, text_member}

@@ -4,7 +4,7 @@ ghost use Rattle.json_forms.specs.View.{view, items_view};
 ghost use Rattle.json_forms.specs.Lists.{list_of};
 ghost use Rattle.json_forms.specs.Plain.{number_at};
 ghost use Rattle.json_forms.specs.Reading.{Reads};
-ghost use Rattle.outside_scripts.specs.Words.{words_at};
+ghost use Rattle.script_forms.specs.Words.{words_at};
 
 use json_forms::{ReadError, Value, read};
 use smithy_types::List;
