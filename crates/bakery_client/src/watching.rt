@@ -1,7 +1,9 @@
 //! A waiter that asks for an order until it is ready.
-ghost use Rattle.std.specs.Prelude.{◌≡◌, ◌<◌, ◌≤◌, ◌+◌, ◌^◌, IfOk, Ok};
-ghost use Rattle.bakery_client.specs.Waiting.{Says, WaitsBy};
+ghost use Rattle.std.specs.Prelude.{◌≡◌, ◌<◌, ◌≤◌, ◌+◌, ◌^◌, IfOk, Ok, codes};
+ghost use Rattle.bakery_client.specs.Waiting.{Asks, AsksFor, Says, WaitsBy, told};
 ghost use Rattle.bakery_model.specs.declared.model.OrderState.TheVariants.{Ready};
+ghost use Rattle.smithy_types.specs.declared.fault.FaultKind.TheVariants.{Other};
+ghost use Rattle.smithy_types.specs.declared.fault.SdkError.TheVariants.{ConstructionFailure};
 
 use crate::client::{BakeryClient, BakeryOperation, invoke};
 use bakery_model::{BakeryError, GetOrderInput, GetOrderOutput, OrderState};
@@ -72,14 +74,14 @@ impl<Q: Quota + Drop, C: ClassifyRetry, I: TakeOffer> Watch<Q, C, I> {
 
 impl<Q: Quota + Drop, C: ClassifyRetry, I: TakeOffer> Timers for Watch<Q, C, I> {
     ghost use Rattle.std.specs.Prelude.{None, true};
-    ghost use Rattle.waiters.specs.Count.{Counts};
+    ghost use Rattle.bakery_client.specs.Waiting.{Passes};
     ghost use Rattle.waiters.specs.declared.timers.WaiterCall.TheVariants as calls;
 
     ghost moment = { λ _. None };
 
     ghost sleeps = { λ _. true };
 
-    ghost relates = { λ old call new. Counts old.unready (calls.Timers call) new.unready };
+    ghost relates = { λ old call new. Passes old (calls.Timers call) new };
 
     fn has_sleep(&self) -> bool {
         true
@@ -108,9 +110,9 @@ impl<Q: Quota + Drop, C: ClassifyRetry, I: TakeOffer> Timers for Watch<Q, C, I> 
 
 impl<Q: Quota + Drop, C: ClassifyRetry, I: TakeOffer> WaiterTimers for Watch<Q, C, I> {
     ghost use Rattle.std.specs.Prelude.{refl};
-    ghost use Rattle.waiters.specs.Count.{Counts};
+    ghost use Rattle.bakery_client.specs.Waiting.{Passes, sleeps_are_counted};
 
-    ghost makes = { λ old call new. Counts old.unready call new.unready };
+    ghost makes = { Passes };
 
     ghost unready = { λ watch. watch.unready };
 
@@ -126,7 +128,7 @@ impl<Q: Quota + Drop, C: ClassifyRetry, I: TakeOffer> WaiterTimers for Watch<Q, 
 
     ghost sleeps_stay = { λ old call new made. refl };
 
-    ghost counts = { λ old call new made. made };
+    ghost counts = { sleeps_are_counted };
 }
 
 // Asks for the order once.
@@ -134,7 +136,7 @@ fn poll<Q: Quota + Drop, C: ClassifyRetry, I: TakeOffer>(
     watch: &mut Watch<Q, C, I>,
     number: u32,
 ) -> Result<Option<Polled>, OutOfMemory>
-    ensures { watch.new.unready ≡ watch.old.unready }
+    ensures { Asks watch.old number result watch.new }
 {
     watch.polls = number;
     let input = GetOrderInput {
@@ -149,14 +151,18 @@ fn ask<Q: Quota + Drop, C: ClassifyRetry, I: TakeOffer>(
     operation: &GetOrder,
     client: &mut BakeryClient<ScriptedOutside, Q, C, I>,
     input: GetOrderInput,
-) -> Result<Option<Polled>, OutOfMemory> {
+) -> Result<Option<Polled>, OutOfMemory>
+    ensures { AsksFor input result client.old.log client.new.log }
+{
     polled(invoke(alloc, operation, client, input, FUEL_OF_A_POLL))
 }
 
 // An invocation's answer as that of a poll. What isn't an SdkError is told as one.
 fn polled(
     answer: Result<GetOrderOutput, InvokeError<BakeryError>>,
-) -> Result<Option<Polled>, OutOfMemory> {
+) -> Result<Option<Polled>, OutOfMemory>
+    ensures { result ≡ told answer }
+{
     match answer {
         Ok(output) => Ok(Some(Ok(output))),
         Err(InvokeError::Sdk(error)) => Ok(Some(Err(error))),
@@ -167,7 +173,9 @@ fn polled(
 }
 
 // A failure that has nothing to do with the service.
-fn other(text: &'static str) -> SdkError<BakeryError> {
+fn other(text: &'static str) -> SdkError<BakeryError>
+    ensures { result ≡ ConstructionFailure (record { kind = Other; text = text.now }) }
+{
     SdkError::ConstructionFailure(Fault {
         kind: FaultKind::Other,
         text: Text::from_static(text),
@@ -203,8 +211,7 @@ pub fn wait<Q: Quota + Drop, C: ClassifyRetry, I: TakeOffer>(
 ) -> Ending
     requires { watch.old.unready + fuel < 2 ^ 64 }
     ensures ready { IfOk result (λ last. last.result ≡ Ok (record { state = Ready })) }
-    ensures waits { WaitsBy (λ w. w.unready) 2000000000 120000000000 300000000000 watch.old fuel
-        result watch.new }
+    ensures waits { WaitsBy 2000000000 120000000000 300000000000 watch.old fuel result watch.new }
 {
     wait_within(watch, 2 * SECOND, 120 * SECOND, 300 * SECOND, fuel)
 }
@@ -221,7 +228,7 @@ fn wait_within<Q: Quota + Drop, C: ClassifyRetry, I: TakeOffer>(
     requires in_order { min ≤ max }
     requires room { watch.old.unready + fuel < 2 ^ 64 }
     ensures ready { IfOk result (λ last. last.result ≡ Ok (record { state = Ready })) }
-    ensures waits { WaitsBy (λ w. w.unready) min max max_wait watch.old fuel result watch.new }
+    ensures waits { WaitsBy min max max_wait watch.old fuel result watch.new }
 {
     let alloc = watch.alloc;
     let built = WaiterOrchestrator::builder()
@@ -233,7 +240,7 @@ fn wait_within<Q: Quota + Drop, C: ClassifyRetry, I: TakeOffer>(
         .acceptor(accepted)
         .operation(
             |watch: &mut Watch<Q, C, I>, number: u32| -> Result<Option<Polled>, OutOfMemory>
-                ensures { watch.new.unready ≡ watch.old.unready }
+                ensures { Asks watch.old number result watch.new }
             { poll(watch, number) },
         )
         .build();
