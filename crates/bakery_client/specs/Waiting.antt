@@ -6,7 +6,6 @@ use Rattle.smithy_types.specs.declared.acceptor.AcceptorState.{AcceptorState}
 use Rattle.smithy_types.specs.declared.acceptor.AcceptorState.TheVariants.{Success, Failure, Retry}
 use Rattle.smithy_types.specs.declared.fault.FaultKind.TheVariants.{Other}
 use Rattle.smithy_types.specs.declared.fault.SdkError.TheVariants.{ConstructionFailure}
-use Rattle.smithy_types.specs.declared.memory.OutOfMemory.{OutOfMemory}
 use Rattle.text_payloads.specs.Text.{is_text}
 use Rattle.bakery_model.specs.Model.{error_of, is_error, is_state, state_of}
 use Rattle.bakery_model.specs.declared.model.BakeryError.{BakeryError}
@@ -44,7 +43,7 @@ told (Ok output) = Ok (Some (Ok output))
 told (Err (invoked.Sdk error)) = Ok (Some (Err error))
 told (Err invoked.Unfinished) = Ok (Some (Err (ConstructionFailure (record { kind = Other; text = codes "the fuel is used up" }))))
 told (Err (invoked.WrongType payload)) = Ok (Some (Err (ConstructionFailure (record { kind = Other; text = codes "an answer of another kind" }))))
-told (Err invoked.OutOfMemory) = Err OutOfMemory
+told (Err invoked.OutOfMemory) = Err (record {})
 
 -- an invocation of `GetOrder` for this order answers so, and its log grows so
 abbrev pub Invokes : GetOrderInput → Result GetOrderOutput (InvokeError BakeryError) → List Entry → List Entry → Type 0
@@ -79,14 +78,14 @@ module _ {Q C I P L : Type 0} where
       Makes (outside_of old) (calls.Word word) (outside_of new) × (new ≡ waited old (outside_of new) old.unready)
   Passes old Park new =
       Makes (outside_of old) calls.Park (outside_of new) × (new ≡ waited old (outside_of new) old.unready)
-  Passes old (Poll number told) new = new.unready ≡ old.unready
+  Passes old (Poll number answer) new = new.unready ≡ old.unready
 
   -- so the sleeps that weren't over are counted, and nothing else
   abbrev pub sleeps_are_counted : (old : Watch Q C I P L) (call : WaiterCall) (new : Watch Q C I P L) → Passes old call new → Counts old.unready call new.unready
-  sleeps_are_counted old (Timers call) new made = made.1.0
+  sleeps_are_counted old (Timers call) new made = made.1
   sleeps_are_counted old (Word word) new made = ap (λ w. w.unready) made.1
   sleeps_are_counted old Park new made = ap (λ w. w.unready) made.1
-  sleeps_are_counted old (Poll number told) new made = made
+  sleeps_are_counted old (Poll number answer) new made = made
 
   -- A poll with this number asks once for the order that is watched, and tells what was answered.
   pub record Asks (old : Watch Q C I P L) (number : ℕ) (found : Answer GetOrderOutput BakeryError) (new : Watch Q C I P L) : Type 0 where
