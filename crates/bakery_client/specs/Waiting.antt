@@ -78,14 +78,14 @@ module _ {Q C I P L : Type 0} where
       Makes (outside_of old) (calls.Word word) (outside_of new) × (new ≡ waited old (outside_of new) old.unready)
   Passes old Park new =
       Makes (outside_of old) calls.Park (outside_of new) × (new ≡ waited old (outside_of new) old.unready)
-  Passes old (Poll number answer) new = new.unready ≡ old.unready
+  Passes old (Poll number _) new = new.unready ≡ old.unready
 
   -- so the sleeps that weren't over are counted, and nothing else
   abbrev pub sleeps_are_counted : (old : Watch Q C I P L) (call : WaiterCall) (new : Watch Q C I P L) → Passes old call new → Counts old.unready call new.unready
   sleeps_are_counted old (Timers call) new made = made.1
   sleeps_are_counted old (Word word) new made = ap (λ w. w.unready) made.1
   sleeps_are_counted old Park new made = ap (λ w. w.unready) made.1
-  sleeps_are_counted old (Poll number answer) new made = made
+  sleeps_are_counted old (Poll number _) new made = made
 
   -- A poll with this number asks once for the order that is watched, and tells what was answered.
   pub record Asks (old : Watch Q C I P L) (number : ℕ) (found : Answer GetOrderOutput BakeryError) (new : Watch Q C I P L) : Type 0 where
