@@ -1,3 +1,4 @@
 pub mod Levels
 pub mod Facts
 pub mod Handed
+pub mod Answered
