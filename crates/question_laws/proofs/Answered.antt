@@ -1,5 +1,5 @@
 -- A client's parts answer few questions of a run Absent.
-use Rattle.std.proofs.Common.{◌≡◌, ◌∙◌, refl, sym, ap, subst, ℕ, Bool, true, false, not, ◌&&◌, if◌then◌else◌, List, [], ◌∷◌, ◌++◌, append_assoc, Option, None, Some, position}
+use Rattle.std.proofs.Common.{◌≡◌, ◌∙◌, refl, sym, ap, subst, ℕ, Bool, true, false, not, ◌&&◌, if◌then◌else◌, List, [], ◌∷◌, ◌++◌, map, Option, None, Some, position}
 use Rattle.auth_endpoint.specs.Choice.{is_id}
 use Rattle.auth_endpoint.specs.declared.scheme.Signed.{Signed}
 use Rattle.auth_endpoint.specs.declared.scheme.Signed.TheVariants as signed
@@ -21,16 +21,16 @@ use Rattle.retry_parts.specs.Configuring.{finished, no_sleep, no_time_source}
 use Rattle.retry_parts.specs.declared.configure.CacheNeeds.{CacheNeeds}
 use Rattle.run_grammar.specs.Entry.{kind_of}
 use Rattle.run_grammar.specs.Fits.{fits}
-use Rattle.run_grammar.specs.Laws.{EachFits, IsWhole}
+use Rattle.run_grammar.specs.Laws.{EachFits}
 use Rattle.run_grammar.specs.Question.{kind_of_question}
-use Rattle.run_grammar.specs.Standing.{start}
+use Rattle.run_grammar.specs.Standing.{standing, start}
 use Rattle.run_grammar.specs.declared.answer.Answer.{Answer}
 use Rattle.run_grammar.specs.declared.answer.Answer.TheVariants as answers
 use Rattle.run_grammar.specs.declared.answer.Entry.{Entry}
 use Rattle.run_grammar.specs.declared.kind.ConfigureStage.TheVariants as stages
 use Rattle.run_grammar.specs.declared.question.Question.{Question}
 use Rattle.run_grammar.specs.declared.question.Question.TheVariants as questions
-use Rattle.run_grammar.proofs.Paths.{fits_of}
+use Rattle.run_grammar.proofs.Paths.{fits_of, handed_of}
 use Rattle.smithy_context.specs.StandingLayers.{StandingLayers}
 use Rattle.smithy_types.specs.declared.fault.Fault.{Fault}
 use Rattle.smithy_types.specs.declared.fault.Outcome.{Outcome}
@@ -46,7 +46,9 @@ use Rattle.components.specs.Serving.{Means, Answers, Served}
 use Rattle.components.specs.declared.parts.Parts.{Parts}
 use Rattle.question_laws.specs.Answering.{AbsentsAreFew, MayBeAbsent}
 use Rattle.question_laws.specs.Handing.{HandsParts}
-use Rattle.question_laws.proofs.Handed.{parts_handed}
+use Rattle.question_laws.proofs.Handed.{handed_at, parts_handed}
+use Rattle.question_laws.proofs.Choices.{ChoosesWell, not_placed}
+use Rattle.question_laws.proofs.Schemes.{HandsKnown, Known, chosen_well, known_asked, known_at, scheme_ids}
 
 -- ---- what isn't Absent
 
@@ -109,58 +111,61 @@ module _ {X Q P L C I A R Z D : Type 0} (means : Means X Q P L C I A R Z D) wher
   at_scheme schemes (Some place) request identity endpoint a h e = absurd (not_signed h.2.0 (sym h.2.2 ∙ e))
 
   unsigned : (schemes : List A) (settings : StandingLayers) (request : Option HttpRequest) (id : Option (List ℕ)) (identity : Option Identity) (endpoint : Option Endpoint) (a : Answer)
-      → HandsParts (questions.Sign settings request id identity endpoint) → signing.Signs means.names means.signs schemes request id identity endpoint a → a ≡ answers.Absent
-      → MayBeAbsent means.names schemes (questions.Sign settings request id identity endpoint)
-  unsigned schemes settings None id identity endpoint a p h e = absurd (let none = p.0 in cc none)
-  unsigned schemes settings (Some request) None identity endpoint a p h e = absurd (let none = p.1 in cc none)
-  unsigned schemes settings (Some request) (Some id) None endpoint a p h e = absurd (let none = p.2 in cc none)
-  unsigned schemes settings (Some request) (Some id) (Some identity) None a p h e = absurd (let none = p.3 in cc none)
-  unsigned schemes settings (Some request) (Some id) (Some identity) (Some endpoint) a p h e = at_scheme schemes _ request identity endpoint a h e
+      → HandsParts (questions.Sign settings request id identity endpoint) → Known (map means.names schemes) id → signing.Signs means.names means.signs schemes request id identity endpoint a → a ≡ answers.Absent → ⊥
+  unsigned schemes settings None id identity endpoint a p k h e = absurd (let none = p.0 in cc none)
+  unsigned schemes settings (Some request) None identity endpoint a p k h e = absurd (let none = p.1 in cc none)
+  unsigned schemes settings (Some request) (Some id) None endpoint a p k h e = absurd (let none = p.2 in cc none)
+  unsigned schemes settings (Some request) (Some id) (Some identity) None a p k h e = absurd (let none = p.3 in cc none)
+  unsigned schemes settings (Some request) (Some id) (Some identity) (Some endpoint) a p k h e =
+      not_placed means.names id schemes k (at_scheme schemes (position (λ s. is_id id (means.names s)) schemes) request identity endpoint a h e)
 
-  answered : (old new : Parts X Q C I A R Z D P L) (q : Question) (a : Answer) → HandsParts q → fits (kind_of_question q) a ≡ true → Answers means old q a new → a ≡ answers.Absent
-      → MayBeAbsent means.names new.given.schemes.items q
+  answered : (old new : Parts X Q C I A R Z D P L) (q : Question) (a : Answer) → HandsParts q → HandsKnown (scheme_ids means old) q → fits (kind_of_question q) a ≡ true → Answers means old q a new
+      → a ≡ answers.Absent → MayBeAbsent q
   unfolding fits
-  answered old new (questions.Configure stages.Client settings) a p f h e = let clash = sym e ∙ h.0 in cc clash
-  answered old new (questions.Configure stages.Operation settings) a p f h e = let clash = sym e ∙ h.0 in cc clash
-  answered old new (questions.Configure stages.Final settings) a p f h e =
+  answered old new (questions.Configure stages.Client settings) a p k f h e = let clash = sym e ∙ h.0 in cc clash
+  answered old new (questions.Configure stages.Operation settings) a p k f h e = let clash = sym e ∙ h.0 in cc clash
+  answered old new (questions.Configure stages.Final settings) a p k f h e =
       not_finished (record { lazy_cache = has_cache old.identities; time_source = old.given.time_source; sleep_impl = old.given.sleep_impl }) (sym h.0 ∙ e)
-  answered old new (questions.Hook hook view) a p f h e = unfit (questions.Hook hook view) a refl f e
-  answered old new (questions.Serialize None settings) a p f h e = absurd (cc)
-  answered old new (questions.Serialize (Some input) settings) a p f h e = not_serialized h.0.0 (sym h.0.2 ∙ e)
-  answered old new (questions.Load None) a p f h e = absurd (cc)
-  answered old new (questions.Load (Some request)) a p f h e = not_loaded request.body (sym h.0 ∙ e)
-  answered old new (questions.Initial settings) a p f h e = tt
-  answered old new (questions.Start role nanos) a p f h e = tt
-  answered old new (questions.Wait role) a p f h e = unfit (questions.Wait role) a refl f e
-  answered old new (questions.Choose settings) a p f h e = tt
-  answered old new (questions.Endpoint settings identity) a p f h e = let clash = sym e ∙ h.0 in cc clash
-  answered old new (questions.Apply settings request endpoint) a p f h e = not_applied request endpoint settings a p h.0 e
-  answered old new (questions.Sign settings request scheme identity endpoint) a p f h e =
-      subst (λ (parts : Parts X Q C I A R Z D P L). MayBeAbsent means.names parts.given.schemes.items (questions.Sign settings request scheme identity endpoint)) (sym h.1)
-      (unsigned old.given.schemes.items settings request scheme identity endpoint a p h.0 e)
-  answered old new (questions.Transmit settings request) a p f h e =
+  answered old new (questions.Hook hook view) a p k f h e = unfit (questions.Hook hook view) a refl f e
+  answered old new (questions.Serialize None settings) a p k f h e = absurd (cc)
+  answered old new (questions.Serialize (Some input) settings) a p k f h e = not_serialized h.0.0 (sym h.0.2 ∙ e)
+  answered old new (questions.Load None) a p k f h e = absurd (cc)
+  answered old new (questions.Load (Some request)) a p k f h e = not_loaded request.body (sym h.0 ∙ e)
+  answered old new (questions.Initial settings) a p k f h e = tt
+  answered old new (questions.Start role nanos) a p k f h e = tt
+  answered old new (questions.Wait role) a p k f h e = unfit (questions.Wait role) a refl f e
+  answered old new (questions.Choose settings) a p k f h e = subst (ChoosesWell (scheme_ids means old)) e (chosen_well means old new (questions.Choose settings) a h)
+  answered old new (questions.Endpoint settings identity) a p k f h e = let clash = sym e ∙ h.0 in cc clash
+  answered old new (questions.Apply settings request endpoint) a p k f h e = not_applied request endpoint settings a p h.0 e
+  answered old new (questions.Sign settings request scheme identity endpoint) a p k f h e =
+      unsigned old.given.schemes.items settings request scheme identity endpoint a p k h.0 e
+  answered old new (questions.Transmit settings request) a p k f h e =
       not_transmitted (means.sleeps old.outside) settings request old.call a new.call h.0.calls p h.0.these e
-  answered old new (questions.Stream settings None) a p f h e = absurd (cc)
-  answered old new (questions.Stream settings (Some response)) a p f h e = not_asked old.given.may_stream h.0
+  answered old new (questions.Stream settings None) a p k f h e = absurd (cc)
+  answered old new (questions.Stream settings (Some response)) a p k f h e = not_asked old.given.may_stream h.0
     where
       not_asked : (may : Bool) → deserializing.Streams means.streams old.given.deserializer may (Some response) settings a → ⊥
       not_asked false s = let clash = sym e ∙ s in cc clash
       not_asked true s = not_streamed s.0 (sym s.2 ∙ e)
-  answered old new (questions.Body settings response) a p f h e = tt
-  answered old new (questions.Deserialize settings None) a p f h e = absurd (cc)
-  answered old new (questions.Deserialize settings (Some response)) a p f h e = let clash = sym e ∙ h.0.2 in cc clash
-  answered old new (questions.Decide settings request response outcome attempt) a p f h e = tt
-  answered old new (questions.Abandon abandoned) a p f h e = unfit (questions.Abandon abandoned) a refl f e
-  answered old new questions.Park a p f h e = unfit questions.Park a refl f e
+  answered old new (questions.Body settings response) a p k f h e = tt
+  answered old new (questions.Deserialize settings None) a p k f h e = absurd (cc)
+  answered old new (questions.Deserialize settings (Some response)) a p k f h e = let clash = sym e ∙ h.0.2 in cc clash
+  answered old new (questions.Decide settings request response outcome attempt) a p k f h e = tt
+  answered old new (questions.Abandon abandoned) a p k f h e = unfit (questions.Abandon abandoned) a refl f e
+  answered old new questions.Park a p k f h e = unfit questions.Park a refl f e
 
   -- ---- lists
 
-  last_served : (before : List Entry) (e : Entry) (old new : Parts X Q C I A R Z D P L) → Served means old (before ++ e ∷ []) new → (mid : Parts X Q C I A R Z D P L) × Answers means mid e.question e.answer new
-  last_served [] e old new (mid, serves, same) = (old, subst (Answers means old e.question e.answer) (sym same) serves)
-  last_served (x ∷ before) e old new (mid, serves, rest) = last_served before e mid new rest
+  last_served : (before : List Entry) (e : Entry) (old new : Parts X Q C I A R Z D P L) → Served means old (before ++ e ∷ []) new
+      → (mid : Parts X Q C I A R Z D P L) × Served means old before mid × Answers means mid e.question e.answer new
+  last_served [] e old new (mid, serves, same) = (old, refl, subst (Answers means old e.question e.answer) (sym same) serves)
+  last_served (x ∷ before) e old new (mid, serves, rest) = let r = last_served before e mid new rest in (r.0, (mid, serves, r.1), r.2)
 
   pub absents_few : AbsentsAreFew means
   absents_few stop p old new before e begun served absent =
       let at = last_served before e old new served in
-      let fitting = fits_of before (e ∷ []) (fits_of (before ++ e ∷ []) begun.0 begun.1.fitting).0 in
-      answered at.0 new e.question e.answer (parts_handed stop p before e begun) fitting.1.0 at.1 absent
+      let whole = begun.1 in
+      let fitting = fits_of before (e ∷ []) (fits_of (before ++ e ∷ []) begun.0 whole.fitting).0 in
+      let handed = handed_at before e [] (start p) (handed_of (before ++ e ∷ []) begun.0 (start p) whole.handed).0 in
+      let known = known_asked (scheme_ids means at.0) (kind_of e) (standing (start p) before) (known_at means before old at.0 (start p) at.1 tt) in
+      answered at.0 new e.question e.answer (parts_handed stop p before e begun) (subst (HandsKnown (scheme_ids means at.0)) (sym handed) known) fitting.1.0 at.2 absent

@@ -47,7 +47,7 @@ meets_at : (x : Part) (before : List Entry) (e : Entry) (after : List Entry) (s 
 meets_at x [] e after s g k = g.0 k
 meets_at x (y ∷ before) e after s g k = meets_at x before e after (step s y) g.1 k
 
-handed_at : (before : List Entry) (e : Entry) (after : List Entry) (s : State) → WellHanded s (before ++ e ∷ after) → e.question ≡ asked (kind_of e) (standing s before)
+pub handed_at : (before : List Entry) (e : Entry) (after : List Entry) (s : State) → WellHanded s (before ++ e ∷ after) → e.question ≡ asked (kind_of e) (standing s before)
 handed_at [] e after s h = h.0
 handed_at (x ∷ before) e after s h = handed_at before e after (step s x) h.1
 

@@ -1,4 +1,6 @@
 pub mod Levels
 pub mod Facts
 pub mod Handed
+pub mod Choices
+pub mod Schemes
 pub mod Answered

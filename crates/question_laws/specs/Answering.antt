@@ -1,6 +1,5 @@
 -- Which questions of a run a client's parts may answer Absent.
-use Rattle.std.specs.Prelude.{◌≡◌, ℕ, List, [], ◌∷◌, ◌++◌, Option, None, Some, position}
-use Rattle.auth_endpoint.specs.Choice.{is_id}
+use Rattle.std.specs.Prelude.{◌≡◌, List, [], ◌∷◌, ◌++◌}
 use Rattle.components.specs.Serving.{Means, Served}
 use Rattle.components.specs.declared.parts.Parts.{Parts}
 use Rattle.run_grammar.specs.Laws.{Begins}
@@ -12,23 +11,16 @@ use Rattle.run_grammar.specs.declared.question.Question.TheVariants as questions
 use Rattle.smithy_types.specs.declared.kinds.StopPoint.{StopPoint}
 use Rattle.smithy_types.specs.declared.payload.Payload.{Payload}
 
--- no scheme has the id
-abbrev pub IsUnknown : {A : Type 0} → (A → List ℕ) → List A → Option (List ℕ) → Type 0
-IsUnknown names schemes None = ⊥
-IsUnknown names schemes (Some id) = position (λ s. is_id id (names s)) schemes ≡ None
-
--- Start and the retry strategy's questions may be; so may Choose, Body, and a Sign whose scheme the client hasn't
-abbrev pub MayBeAbsent : {A : Type 0} → (A → List ℕ) → List A → Question → Type 0
-MayBeAbsent names schemes (questions.Initial settings) = Unit {0}
-MayBeAbsent names schemes (questions.Start role nanos) = Unit {0}
-MayBeAbsent names schemes (questions.Decide settings request response outcome attempt) = Unit {0}
-MayBeAbsent names schemes (questions.Choose settings) = Unit {0}
-MayBeAbsent names schemes (questions.Body settings response) = Unit {0}
-MayBeAbsent names schemes (questions.Sign settings request scheme identity endpoint) = IsUnknown names schemes scheme
-MayBeAbsent names schemes _ = ⊥
+-- Start and the questions of the retry strategy may be, and Body
+abbrev pub MayBeAbsent : Question → Type 0
+MayBeAbsent (questions.Initial settings) = Unit {0}
+MayBeAbsent (questions.Start role nanos) = Unit {0}
+MayBeAbsent (questions.Body settings response) = Unit {0}
+MayBeAbsent (questions.Decide settings request response outcome attempt) = Unit {0}
+MayBeAbsent _ = ⊥
 
 -- so it is of each entry of a list that begins a run, where the client's parts answered the list
 abbrev pub AbsentsAreFew : {X Q P L C I A R Z D : Type 0} → Means X Q P L C I A R Z D → Type 0
 AbsentsAreFew {X} {Q} {P} {L} {C} {I} {A} {R} {Z} {D} means =
     (stop : StopPoint) (p : Payload) (old new : Parts X Q C I A R Z D P L) (before : List Entry) (e : Entry) → Begins stop (start p) (before ++ e ∷ []) → Served means old (before ++ e ∷ []) new
-    → e.answer ≡ answers.Absent → MayBeAbsent means.names new.given.schemes.items e.question
+    → e.answer ≡ answers.Absent → MayBeAbsent e.question

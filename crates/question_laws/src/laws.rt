@@ -18,9 +18,8 @@ pub fn parts_are_handed()
     ensures { PartsAreHanded }
 {}
 
-/// Where a client's parts answered a list that begins a run, the only questions that are answered
-/// Absent are Start, Initial and Decide; and Choose, Body, and a Sign whose scheme no scheme of
-/// the client has.
+/// Where a client's parts answered a list that begins a run, no question is answered Absent but
+/// Start, Initial, Decide and Body.
 pub fn absents_are_few<
     X: Outside + Drop,
     Q: Quota + Drop,
