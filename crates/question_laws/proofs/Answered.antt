@@ -10,7 +10,7 @@ use Rattle.auth_parts.specs.Serializing as serializing
 use Rattle.auth_parts.specs.Signing as signing
 use Rattle.auth_parts.specs.declared.serializer.Serialized.{Serialized}
 use Rattle.auth_parts.specs.declared.serializer.Serialized.TheVariants as serialized
-use Rattle.call_parts.specs.Loading.{loaded, loaded_body}
+use Rattle.call_parts.specs.Loading.{loaded_body}
 use Rattle.call_parts.specs.Transmitting.{Pends, SentAs, StallsAs, Transmits}
 use Rattle.call_parts.specs.declared.call.Call.{Call}
 use Rattle.call_parts.specs.declared.upload.Upload.{Upload}
@@ -21,13 +21,13 @@ use Rattle.retry_parts.specs.Configuring.{finished, no_sleep, no_time_source}
 use Rattle.retry_parts.specs.declared.configure.CacheNeeds.{CacheNeeds}
 use Rattle.run_grammar.specs.Entry.{kind_of}
 use Rattle.run_grammar.specs.Fits.{fits}
-use Rattle.run_grammar.specs.Laws.{EachFits}
 use Rattle.run_grammar.specs.Question.{kind_of_question}
 use Rattle.run_grammar.specs.Standing.{standing, start}
 use Rattle.run_grammar.specs.declared.answer.Answer.{Answer}
 use Rattle.run_grammar.specs.declared.answer.Answer.TheVariants as answers
 use Rattle.run_grammar.specs.declared.answer.Entry.{Entry}
 use Rattle.run_grammar.specs.declared.kind.ConfigureStage.TheVariants as stages
+use Rattle.run_grammar.specs.declared.kind.Kind.TheVariants as kinds
 use Rattle.run_grammar.specs.declared.question.Question.{Question}
 use Rattle.run_grammar.specs.declared.question.Question.TheVariants as questions
 use Rattle.run_grammar.proofs.Paths.{fits_of, handed_of}
@@ -37,16 +37,15 @@ use Rattle.smithy_types.specs.declared.fault.Outcome.{Outcome}
 use Rattle.smithy_types.specs.declared.http.Body.{Body}
 use Rattle.smithy_types.specs.declared.http.Body.TheVariants as bodies
 use Rattle.smithy_types.specs.declared.http.HttpRequest.{HttpRequest}
-use Rattle.smithy_types.specs.declared.http.HttpResponse.{HttpResponse}
 use Rattle.smithy_types.specs.declared.identity.Endpoint.{Endpoint}
 use Rattle.smithy_types.specs.declared.identity.Identity.{Identity}
-use Rattle.smithy_types.specs.declared.kinds.StopPoint.{StopPoint}
-use Rattle.smithy_types.specs.declared.payload.Payload.{Payload}
 use Rattle.components.specs.Serving.{Means, Answers, Served}
 use Rattle.components.specs.declared.parts.Parts.{Parts}
 use Rattle.question_laws.specs.Answering.{AbsentsAreFew, MayBeAbsent}
 use Rattle.question_laws.specs.Handing.{HandsParts}
 use Rattle.question_laws.proofs.Handed.{handed_at, parts_handed}
+use Rattle.question_laws.proofs.Bodies.{open_before}
+use Rattle.question_laws.proofs.OpenCalls.{IsOpen, not_absent, says_on}
 use Rattle.question_laws.proofs.Choices.{ChoosesWell, not_placed}
 use Rattle.question_laws.proofs.Schemes.{HandsKnown, Known, chosen_well, known_asked, known_at, scheme_ids}
 
@@ -119,40 +118,40 @@ module _ {X Q P L C I A R Z D : Type 0} (means : Means X Q P L C I A R Z D) wher
   unsigned schemes settings (Some request) (Some id) (Some identity) (Some endpoint) a p k h e =
       not_placed means.names id schemes k (at_scheme schemes (position (λ s. is_id id (means.names s)) schemes) request identity endpoint a h e)
 
-  answered : (old new : Parts X Q C I A R Z D P L) (q : Question) (a : Answer) → HandsParts q → HandsKnown (scheme_ids means old) q → fits (kind_of_question q) a ≡ true → Answers means old q a new
+  answered : (old new : Parts X Q C I A R Z D P L) (q : Question) (a : Answer) → HandsParts q → HandsKnown (scheme_ids means old) q → (kind_of_question q ≡ kinds.Body → IsOpen old.call) → fits (kind_of_question q) a ≡ true → Answers means old q a new
       → a ≡ answers.Absent → MayBeAbsent q
   unfolding fits
-  answered old new (questions.Configure stages.Client settings) a p k f h e = let clash = sym e ∙ h.0 in cc clash
-  answered old new (questions.Configure stages.Operation settings) a p k f h e = let clash = sym e ∙ h.0 in cc clash
-  answered old new (questions.Configure stages.Final settings) a p k f h e =
+  answered old new (questions.Configure stages.Client settings) a p k o f h e = let clash = sym e ∙ h.0 in cc clash
+  answered old new (questions.Configure stages.Operation settings) a p k o f h e = let clash = sym e ∙ h.0 in cc clash
+  answered old new (questions.Configure stages.Final settings) a p k o f h e =
       not_finished (record { lazy_cache = has_cache old.identities; time_source = old.given.time_source; sleep_impl = old.given.sleep_impl }) (sym h.0 ∙ e)
-  answered old new (questions.Hook hook view) a p k f h e = unfit (questions.Hook hook view) a refl f e
-  answered old new (questions.Serialize None settings) a p k f h e = absurd (cc)
-  answered old new (questions.Serialize (Some input) settings) a p k f h e = not_serialized h.0.0 (sym h.0.2 ∙ e)
-  answered old new (questions.Load None) a p k f h e = absurd (cc)
-  answered old new (questions.Load (Some request)) a p k f h e = not_loaded request.body (sym h.0 ∙ e)
-  answered old new (questions.Initial settings) a p k f h e = tt
-  answered old new (questions.Start role nanos) a p k f h e = tt
-  answered old new (questions.Wait role) a p k f h e = unfit (questions.Wait role) a refl f e
-  answered old new (questions.Choose settings) a p k f h e = subst (ChoosesWell (scheme_ids means old)) e (chosen_well means old new (questions.Choose settings) a h)
-  answered old new (questions.Endpoint settings identity) a p k f h e = let clash = sym e ∙ h.0 in cc clash
-  answered old new (questions.Apply settings request endpoint) a p k f h e = not_applied request endpoint settings a p h.0 e
-  answered old new (questions.Sign settings request scheme identity endpoint) a p k f h e =
+  answered old new (questions.Hook hook view) a p k o f h e = unfit (questions.Hook hook view) a refl f e
+  answered old new (questions.Serialize None settings) a p k o f h e = absurd (cc)
+  answered old new (questions.Serialize (Some input) settings) a p k o f h e = not_serialized h.0.0 (sym h.0.2 ∙ e)
+  answered old new (questions.Load None) a p k o f h e = absurd (cc)
+  answered old new (questions.Load (Some request)) a p k o f h e = not_loaded request.body (sym h.0 ∙ e)
+  answered old new (questions.Initial settings) a p k o f h e = tt
+  answered old new (questions.Start role nanos) a p k o f h e = tt
+  answered old new (questions.Wait role) a p k o f h e = unfit (questions.Wait role) a refl f e
+  answered old new (questions.Choose settings) a p k o f h e = subst (ChoosesWell (scheme_ids means old)) e (chosen_well means old new (questions.Choose settings) a h)
+  answered old new (questions.Endpoint settings identity) a p k o f h e = let clash = sym e ∙ h.0 in cc clash
+  answered old new (questions.Apply settings request endpoint) a p k o f h e = not_applied request endpoint settings a p h.0 e
+  answered old new (questions.Sign settings request scheme identity endpoint) a p k o f h e =
       unsigned old.given.schemes.items settings request scheme identity endpoint a p k h.0 e
-  answered old new (questions.Transmit settings request) a p k f h e =
+  answered old new (questions.Transmit settings request) a p k o f h e =
       not_transmitted (means.sleeps old.outside) settings request old.call a new.call h.0.calls p h.0.these e
-  answered old new (questions.Stream settings None) a p k f h e = absurd (cc)
-  answered old new (questions.Stream settings (Some response)) a p k f h e = not_asked old.given.may_stream h.0
+  answered old new (questions.Stream settings None) a p k o f h e = absurd (cc)
+  answered old new (questions.Stream settings (Some response)) a p k o f h e = not_asked old.given.may_stream h.0
     where
       not_asked : (may : Bool) → deserializing.Streams means.streams old.given.deserializer may (Some response) settings a → ⊥
       not_asked false s = let clash = sym e ∙ s in cc clash
       not_asked true s = not_streamed s.0 (sym s.2 ∙ e)
-  answered old new (questions.Body settings response) a p k f h e = tt
-  answered old new (questions.Deserialize settings None) a p k f h e = absurd (cc)
-  answered old new (questions.Deserialize settings (Some response)) a p k f h e = let clash = sym e ∙ h.0.2 in cc clash
-  answered old new (questions.Decide settings request response outcome attempt) a p k f h e = tt
-  answered old new (questions.Abandon abandoned) a p k f h e = unfit (questions.Abandon abandoned) a refl f e
-  answered old new questions.Park a p k f h e = unfit questions.Park a refl f e
+  answered old new (questions.Body settings response) a p k o f h e = not_absent (means.sleeps old.outside) settings response old.call a new.call h.0.calls (o refl) h.0.these e
+  answered old new (questions.Deserialize settings None) a p k o f h e = absurd (cc)
+  answered old new (questions.Deserialize settings (Some response)) a p k o f h e = let clash = sym e ∙ h.0.2 in cc clash
+  answered old new (questions.Decide settings request response outcome attempt) a p k o f h e = tt
+  answered old new (questions.Abandon abandoned) a p k o f h e = unfit (questions.Abandon abandoned) a refl f e
+  answered old new questions.Park a p k o f h e = unfit questions.Park a refl f e
 
   -- ---- lists
 
@@ -168,4 +167,5 @@ module _ {X Q P L C I A R Z D : Type 0} (means : Means X Q P L C I A R Z D) wher
       let fitting = fits_of before (e ∷ []) (fits_of (before ++ e ∷ []) begun.0 whole.fitting).0 in
       let handed = handed_at before e [] (start p) (handed_of (before ++ e ∷ []) begun.0 (start p) whole.handed).0 in
       let known = known_asked (scheme_ids means at.0) (kind_of e) (standing (start p) before) (known_at means before old at.0 (start p) at.1 tt) in
-      answered at.0 new e.question e.answer (parts_handed stop p before e begun) (subst (HandsKnown (scheme_ids means at.0)) (sym handed) known) fitting.1.0 at.2 absent
+      answered at.0 new e.question e.answer (parts_handed stop p before e begun) (subst (HandsKnown (scheme_ids means at.0)) (sym handed) known)
+      (λ k. says_on means before old at.0 false (λ c. absurd (cc c)) at.1 (open_before stop p before e begun k false)) fitting.1.0 at.2 absent

@@ -7,8 +7,8 @@ use Rattle.std.proofs.lemmas.Option.{get_or_from_slice_get}
 use Rattle.auth_endpoint.specs.Choice.{IsChosen, is_id, is_named, is_unlisted, lack_of, reprioritized, schemes_of}
 use Rattle.auth_endpoint.specs.declared.explored.ExploreResult.{ExploreResult}
 use Rattle.auth_endpoint.specs.declared.explored.ExploreResult.TheVariants.{NoAuthScheme, NoIdentityResolver, MissingEndpointConfig}
-use Rattle.auth_parts.specs.Caching.{Answered, ChoosesCached, Continues, GoesOnCached}
-use Rattle.auth_parts.specs.Choosing.{Asks, Chooses, GoesOn, Picks, Resolves, answer_with, endpoint_before}
+use Rattle.auth_parts.specs.Caching.{Answered, Continues, GoesOnCached}
+use Rattle.auth_parts.specs.Choosing.{Asks, GoesOn, Picks, Resolves, answer_with, endpoint_before}
 use Rattle.auth_parts.specs.Identities.{ChoosesBy}
 use Rattle.auth_parts.specs.Reading.{standing_preference}
 use Rattle.auth_parts.specs.declared.cached.Opened.{Opened}

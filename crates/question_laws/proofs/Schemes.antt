@@ -1,5 +1,5 @@
 -- The scheme that stands is one of the client's, which never change.
-use Rattle.std.proofs.Common.{◌≡◌, ◌∙◌, refl, sym, ap, subst, ℕ, true, List, [], ◌∷◌, ◌++◌, map, Option, None, Some}
+use Rattle.std.proofs.Common.{◌≡◌, sym, ap, subst, ℕ, true, List, [], ◌∷◌, map, Option, None, Some}
 use Rattle.smithy_types.specs.declared.fault.FaultKind.TheVariants as faults
 use Rattle.smithy_types.specs.declared.hook.Hook.{Hook}
 use Rattle.smithy_types.specs.declared.http.HttpRequest.{HttpRequest}

@@ -11,11 +11,10 @@ use Rattle.run_grammar.specs.declared.question.Question.TheVariants as questions
 use Rattle.smithy_types.specs.declared.kinds.StopPoint.{StopPoint}
 use Rattle.smithy_types.specs.declared.payload.Payload.{Payload}
 
--- Start and the questions of the retry strategy may be, and Body
+-- Start may be, and the questions of the retry strategy
 abbrev pub MayBeAbsent : Question → Type 0
 MayBeAbsent (questions.Initial settings) = Unit {0}
 MayBeAbsent (questions.Start role nanos) = Unit {0}
-MayBeAbsent (questions.Body settings response) = Unit {0}
 MayBeAbsent (questions.Decide settings request response outcome attempt) = Unit {0}
 MayBeAbsent _ = ⊥
 

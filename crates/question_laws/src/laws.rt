@@ -19,7 +19,7 @@ pub fn parts_are_handed()
 {}
 
 /// Where a client's parts answered a list that begins a run, no question is answered Absent but
-/// Start, Initial, Decide and Body.
+/// Start, Initial and Decide.
 pub fn absents_are_few<
     X: Outside + Drop,
     Q: Quota + Drop,
