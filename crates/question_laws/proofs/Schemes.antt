@@ -1,5 +1,5 @@
 -- The scheme that stands is one of the client's, which never change.
-use Rattle.std.proofs.Common.{◌≡◌, sym, ap, subst, ℕ, true, List, [], ◌∷◌, map, Option, None, Some}
+use Rattle.std.proofs.Common.{◌≡◌, ◌∙◌, sym, ap, subst, ℕ, true, List, [], ◌∷◌, map, Option, None, Some}
 use Rattle.smithy_types.specs.declared.fault.FaultKind.TheVariants as faults
 use Rattle.smithy_types.specs.declared.hook.Hook.{Hook}
 use Rattle.smithy_types.specs.declared.http.HttpRequest.{HttpRequest}
@@ -185,28 +185,32 @@ module _ {X Q P L C I A R Z D : Type 0} (means : Means X Q P L C I A R Z D) wher
   scheme_ids parts = map means.names parts.given.schemes.items
 
   -- no entry changes what a client was given
-  pub same_ids : (old new : Parts X Q C I A R Z D P L) (q : Question) (a : Answer) → Answers means old q a new → scheme_ids new ≡ scheme_ids old
-  same_ids old new (questions.Configure stages.Client settings) a h = ap scheme_ids h.1.others
-  same_ids old new (questions.Configure stages.Operation settings) a h = ap scheme_ids h.1
-  same_ids old new (questions.Configure stages.Final settings) a h = ap scheme_ids h.1
-  same_ids old new (questions.Hook hook view) a h = ap scheme_ids h.others
-  same_ids old new (questions.Serialize input settings) a h = ap scheme_ids h.1
-  same_ids old new (questions.Load request) a h = ap scheme_ids h.1
-  same_ids old new (questions.Initial settings) a h = ap scheme_ids h.others
-  same_ids old new (questions.Start role nanos) a h = ap scheme_ids h.1
-  same_ids old new (questions.Wait role) a h = ap scheme_ids h.1
-  same_ids old new (questions.Choose settings) a h = ap scheme_ids h.others
-  same_ids old new (questions.Endpoint settings identity) a h = ap scheme_ids h.1
-  same_ids old new (questions.Apply settings request endpoint) a h = ap scheme_ids h.1
-  same_ids old new (questions.Sign settings request scheme identity endpoint) a h = ap scheme_ids h.1
-  same_ids old new (questions.Transmit settings request) a h = ap scheme_ids h.1
-  same_ids old new (questions.Stream settings response) a h = ap scheme_ids h.1
-  same_ids old new (questions.Body settings response) a h = ap scheme_ids h.1
-  same_ids old new (questions.Deserialize settings response) a h = ap scheme_ids h.1
-  same_ids old new (questions.Decide settings request response outcome attempt) a h = ap scheme_ids h.others
-  same_ids old new (questions.Abandon abandoned.Choose) a h = ap scheme_ids h.2
-  same_ids old new (questions.Abandon _) a h = ap scheme_ids h.2
-  same_ids old new questions.Park a h = ap scheme_ids h.2
+  same_given : (old new : Parts X Q C I A R Z D P L) (q : Question) (a : Answer) → Answers means old q a new → new.given ≡ old.given
+  same_given old new (questions.Configure stages.Client settings) a h = ap (λ (parts : Parts X Q C I A R Z D P L). parts.given) h.1.others
+  same_given old new (questions.Configure stages.Operation settings) a h = ap (λ (parts : Parts X Q C I A R Z D P L). parts.given) h.1
+  same_given old new (questions.Configure stages.Final settings) a h = ap (λ (parts : Parts X Q C I A R Z D P L). parts.given) h.1
+  same_given old new (questions.Hook hook view) a h = ap (λ (parts : Parts X Q C I A R Z D P L). parts.given) h.others
+  same_given old new (questions.Serialize input settings) a h = ap (λ (parts : Parts X Q C I A R Z D P L). parts.given) h.1
+  same_given old new (questions.Load request) a h = ap (λ (parts : Parts X Q C I A R Z D P L). parts.given) h.1
+  same_given old new (questions.Initial settings) a h = ap (λ (parts : Parts X Q C I A R Z D P L). parts.given) h.others
+  same_given old new (questions.Start role nanos) a h = ap (λ (parts : Parts X Q C I A R Z D P L). parts.given) h.1
+  same_given old new (questions.Wait role) a h = ap (λ (parts : Parts X Q C I A R Z D P L). parts.given) h.1
+  same_given old new (questions.Choose settings) a h = ap (λ (parts : Parts X Q C I A R Z D P L). parts.given) h.others
+  same_given old new (questions.Endpoint settings identity) a h = ap (λ (parts : Parts X Q C I A R Z D P L). parts.given) h.1
+  same_given old new (questions.Apply settings request endpoint) a h = ap (λ (parts : Parts X Q C I A R Z D P L). parts.given) h.1
+  same_given old new (questions.Sign settings request scheme identity endpoint) a h = ap (λ (parts : Parts X Q C I A R Z D P L). parts.given) h.1
+  same_given old new (questions.Transmit settings request) a h = ap (λ (parts : Parts X Q C I A R Z D P L). parts.given) h.1
+  same_given old new (questions.Stream settings response) a h = ap (λ (parts : Parts X Q C I A R Z D P L). parts.given) h.1
+  same_given old new (questions.Body settings response) a h = ap (λ (parts : Parts X Q C I A R Z D P L). parts.given) h.1
+  same_given old new (questions.Deserialize settings response) a h = ap (λ (parts : Parts X Q C I A R Z D P L). parts.given) h.1
+  same_given old new (questions.Decide settings request response outcome attempt) a h = ap (λ (parts : Parts X Q C I A R Z D P L). parts.given) h.others
+  same_given old new (questions.Abandon abandoned.Choose) a h = ap (λ (parts : Parts X Q C I A R Z D P L). parts.given) h.2
+  same_given old new (questions.Abandon _) a h = ap (λ (parts : Parts X Q C I A R Z D P L). parts.given) h.2
+  same_given old new questions.Park a h = ap (λ (parts : Parts X Q C I A R Z D P L). parts.given) h.2
+
+  pub given_on : (before : List Entry) (old mid : Parts X Q C I A R Z D P L) → Served means old before mid → mid.given ≡ old.given
+  given_on [] old mid same = ap (λ (parts : Parts X Q C I A R Z D P L). parts.given) same
+  given_on (x ∷ before) old mid (next, serves, rest) = given_on before next mid rest ∙ same_given old next x.question x.answer serves
 
   pub chosen_well : (old new : Parts X Q C I A R Z D P L) (q : Question) (a : Answer) → Answers means old q a new → ChosenWell (scheme_ids old) (kind_of_question q) a
   chosen_well old new (questions.Choose settings) a h =
@@ -218,5 +222,5 @@ module _ {X Q P L C I A R Z D : Type 0} (means : Means X Q P L C I A R Z D) wher
   known_at [] old mid s same h = subst (λ (parts : Parts X Q C I A R Z D P L). Known (scheme_ids parts) s.context.scheme) (sym same) h
   known_at (x ∷ before) old mid s (next, serves, rest) h =
       known_at before next mid (step s x) rest
-      (subst (λ ids. Known ids (step s x).context.scheme) (sym (same_ids old next x.question x.answer serves))
+      (subst (λ ids. Known ids (step s x).context.scheme) (sym (ap (λ g. map means.names g.schemes.items) (same_given old next x.question x.answer serves)))
       (known_step (scheme_ids old) s x (chosen_well old next x.question x.answer serves) h))

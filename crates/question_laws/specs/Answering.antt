@@ -1,25 +1,41 @@
--- Which questions of a run a client's parts may answer Absent.
-use Rattle.std.specs.Prelude.{◌≡◌, List, [], ◌∷◌, ◌++◌}
+-- Why a client's parts answer a question of a run Absent.
+use Rattle.std.specs.Prelude.{◌≡◌, ◌↔◌, ℕ, Bool, false, IsSome, IsTrue, List, [], ◌∷◌, ◌++◌, Option}
 use Rattle.components.specs.Serving.{Means, Served}
 use Rattle.components.specs.declared.parts.Parts.{Parts}
+use Rattle.retry_policy.specs.Standing.{lacks_setting}
 use Rattle.run_grammar.specs.Laws.{Begins}
 use Rattle.run_grammar.specs.Standing.{start}
 use Rattle.run_grammar.specs.declared.answer.Answer.TheVariants as answers
 use Rattle.run_grammar.specs.declared.answer.Entry.{Entry}
 use Rattle.run_grammar.specs.declared.question.Question.{Question}
 use Rattle.run_grammar.specs.declared.question.Question.TheVariants as questions
+use Rattle.smithy_context.specs.StandingLayers.{StandingLayers}
 use Rattle.smithy_types.specs.declared.kinds.StopPoint.{StopPoint}
 use Rattle.smithy_types.specs.declared.payload.Payload.{Payload}
 
--- Start may be, and the questions of the retry strategy
-abbrev pub MayBeAbsent : Question → Type 0
-MayBeAbsent (questions.Initial settings) = Unit {0}
-MayBeAbsent (questions.Start role nanos) = Unit {0}
-MayBeAbsent (questions.Decide settings request response outcome attempt) = Unit {0}
-MayBeAbsent _ = ⊥
+-- a setting of the retry strategy is lacking, at a moment that is known where the client has a time source
+pub record LacksSetting (time_source : Bool) (has_bucket : ℕ → Bool) (settings : StandingLayers) : Type 0 where
+  pub now : Option ℕ
+  pub known : IsSome now ↔ IsTrue time_source
+  pub lacking : IsTrue (lacks_setting settings now has_bucket)
 
--- so it is of each entry of a list that begins a run, where the client's parts answered the list
-abbrev pub AbsentsAreFew : {X Q P L C I A R Z D : Type 0} → Means X Q P L C I A R Z D → Type 0
-AbsentsAreFew {X} {Q} {P} {L} {C} {I} {A} {R} {Z} {D} means =
-    (stop : StopPoint) (p : Payload) (old new : Parts X Q C I A R Z D P L) (before : List Entry) (e : Entry) → Begins stop (start p) (before ++ e ∷ []) → Served means old (before ++ e ∷ []) new
-    → e.answer ≡ answers.Absent → MayBeAbsent e.question
+module _ {X Q P L C I A R Z D : Type 0} (means : Means X Q P L C I A R Z D) where
+  -- the client has no sleeps, or the retry strategy lacks a setting; no other question is answered Absent
+  abbrev pub AbsenceCause : Parts X Q C I A R Z D P L → Question → Type 0
+  AbsenceCause parts (questions.Start role nanos) = parts.given.sleep_impl ≡ false
+  AbsenceCause parts (questions.Initial settings) = LacksSetting parts.given.time_source (means.quota.meaning parts.quota).has settings
+  AbsenceCause parts (questions.Decide settings request response outcome attempt) = LacksSetting parts.given.time_source (means.quota.meaning parts.quota).has settings
+  AbsenceCause parts _ = ⊥
+
+  -- the cause lies in the parts as the entries before the question left them; what the client was given is as it was
+  pub record HasCause (old : Parts X Q C I A R Z D P L) (before : List Entry) (q : Question) : Type 0 where
+    pub parts : Parts X Q C I A R Z D P L
+    pub served : Served means old before parts
+    pub given : parts.given ≡ old.given
+    pub cause : AbsenceCause parts q
+
+  -- so it is of each entry of a list that begins a run, where the client's parts answered the list
+  abbrev pub AbsencesHaveCauses : Type 0
+  AbsencesHaveCauses =
+      (stop : StopPoint) (p : Payload) (old new : Parts X Q C I A R Z D P L) (before : List Entry) (e : Entry) → Begins stop (start p) (before ++ e ∷ []) → Served means old (before ++ e ∷ []) new
+      → e.answer ≡ answers.Absent → HasCause old before e.question

@@ -1,6 +1,6 @@
 //! What holds of the questions of all runs. Each law is the contract of a function without a body.
 ghost use Rattle.retry_quota.specs.Calls.{limiters_by};
-ghost use Rattle.question_laws.specs.Answering.{AbsentsAreFew};
+ghost use Rattle.question_laws.specs.Answering.{AbsencesHaveCauses};
 ghost use Rattle.question_laws.specs.Handing.{PartsAreHanded};
 
 use auth_endpoint::AuthScheme;
@@ -18,9 +18,10 @@ pub fn parts_are_handed()
     ensures { PartsAreHanded }
 {}
 
-/// Where a client's parts answered a list that begins a run, no question is answered Absent but
-/// Start, Initial and Decide.
-pub fn absents_are_few<
+/// Where a client's parts answered a list that begins a run, a question is answered Absent only
+/// where it is a Start and the client has no sleeps, or an Initial or a Decide for which the
+/// standard retry strategy lacks a setting. No other kind is answered so.
+pub fn absences_have_causes<
     X: Outside + Drop,
     Q: Quota + Drop,
     C: ClassifyRetry,
@@ -30,7 +31,7 @@ pub fn absents_are_few<
     Z: SerializeRequest,
     D: DeserializeResponse,
 >()
-    ensures { AbsentsAreFew (record {
+    ensures { AbsencesHaveCauses (record {
       makes = X.makes;
       sleeps = X.sleeps;
       quota = record {
