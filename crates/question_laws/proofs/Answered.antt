@@ -11,20 +11,14 @@ use Rattle.auth_parts.specs.Signing as signing
 use Rattle.auth_parts.specs.declared.serializer.Serialized.{Serialized}
 use Rattle.auth_parts.specs.declared.serializer.Serialized.TheVariants as serialized
 use Rattle.call_parts.specs.Loading.{loaded_body}
-use Rattle.call_parts.specs.Sleeping as sleeping
 use Rattle.call_parts.specs.Transmitting.{Pends, SentAs, StallsAs, Transmits}
 use Rattle.call_parts.specs.declared.call.Call.{Call}
-use Rattle.call_parts.specs.declared.sleeping.Sleeps.{Sleeps}
 use Rattle.call_parts.specs.declared.upload.Upload.{Upload}
 use Rattle.outside.specs.Calls.{OutsideCall}
 use Rattle.outside.specs.declared.answers.Sent.{Sent}
 use Rattle.outside.specs.declared.answers.Sent.TheVariants as sents
 use Rattle.retry_parts.specs.Configuring.{finished, no_sleep, no_time_source}
-use Rattle.retry_parts.specs.Deciding.{DecidesSo, IsDecided}
 use Rattle.retry_parts.specs.Hooking.{seen_context}
-use Rattle.retry_parts.specs.Initially.{Begun, BeginsSo}
-use Rattle.retry_parts.specs.declared.strategy.RetryStrategy.{RetryStrategy}
-use Rattle.retry_parts.specs.declared.strategy.RetryStrategy.TheVariants.{Never, Standard}
 use Rattle.retry_parts.specs.declared.configure.CacheNeeds.{CacheNeeds}
 use Rattle.run_grammar.specs.Entry.{kind_of}
 use Rattle.run_grammar.specs.Fits.{fits}
@@ -46,15 +40,14 @@ use Rattle.smithy_types.specs.declared.http.Body.TheVariants as bodies
 use Rattle.smithy_types.specs.declared.http.HttpRequest.{HttpRequest}
 use Rattle.smithy_types.specs.declared.identity.Endpoint.{Endpoint}
 use Rattle.smithy_types.specs.declared.identity.Identity.{Identity}
-use Rattle.smithy_context.specs.declared.context.InterceptorContext.{InterceptorContext}
-use Rattle.smithy_types.specs.declared.notes.RetryAction.{RetryAction}
-use Rattle.run_grammar.specs.declared.kind.Role.{Role}
 use Rattle.components.specs.Retrying.{decided_view, verdict_on}
 use Rattle.components.specs.Serving.{Means, Answers, Served}
 use Rattle.components.specs.declared.parts.Parts.{Parts}
-use Rattle.question_laws.specs.Answering.{AbsenceCause, AbsencesHaveCauses, LacksSetting}
+use Rattle.question_laws.specs.Answering.{AbsenceCause, AbsencesHaveCauses}
 use Rattle.question_laws.specs.Handing.{HandsParts}
 use Rattle.question_laws.proofs.Handed.{handed_at, parts_handed}
+use Rattle.call_parts.proofs.CauseProofs.{absent_without_sleeps}
+use Rattle.question_laws.proofs.Lacking.{begun_exactly, decided_exactly}
 use Rattle.question_laws.proofs.Bodies.{open_before}
 use Rattle.question_laws.proofs.OpenCalls.{IsOpen, not_absent, says_on}
 use Rattle.question_laws.proofs.Choices.{ChoosesWell, not_placed}
@@ -114,9 +107,6 @@ not_applied (Some request) (Some endpoint) settings a p h e = subst (AppliesTo r
 unfit : (q : Question) (a : Answer) → fits (kind_of_question q) answers.Absent ≡ false → fits (kind_of_question q) a ≡ true → a ≡ answers.Absent → ⊥
 unfit q a n f e = let clash = sym n ∙ (ap (fits (kind_of_question q)) (sym e) ∙ f) in cc clash
 
-not_started : (has : Bool) (role : Role) (nanos : Option ℕ) (old : Sleeps) (a : Answer) (new : Sleeps) (calls : List OutsideCall) → sleeping.Starts has role nanos old a new calls → a ≡ answers.Absent → has ≡ false
-not_started has role nanos old a new calls h e = (subst (λ b. sleeping.Starts has role nanos old b new calls) e h).0
-
 module _ {X Q P L C I A R Z D : Type 0} (means : Means X Q P L C I A R Z D) where
   at_scheme : (schemes : List A) (place : Option ℕ) (request : HttpRequest) (identity : Identity) (endpoint : Endpoint) (a : Answer)
       → signing.SignsAt means.names means.signs schemes place request identity endpoint a → a ≡ answers.Absent → place ≡ None
@@ -132,22 +122,6 @@ module _ {X Q P L C I A R Z D : Type 0} (means : Means X Q P L C I A R Z D) wher
   unsigned schemes settings (Some request) (Some id) (Some identity) (Some endpoint) a p k h e =
       not_placed means.names id schemes k (at_scheme schemes (position (λ s. is_id id (means.names s)) schemes) request identity endpoint a h e)
 
-  not_begun : (time_source : Bool) (settings : StandingLayers) (old : RetryStrategy P) (q : Q) (a : Answer) (new : RetryStrategy P) (calls : List OutsideCall) (after : Q)
-      → Begun means.quota time_source settings old q a new calls after → a ≡ answers.Absent → LacksSetting time_source (means.quota.meaning q).has settings
-  not_begun time_source settings (Never never) q a new calls after h e = absurd (let clash = sym e ∙ h.0 in cc clash)
-  not_begun time_source settings (Standard standard) q a new calls after h e =
-      let asks = h.1 in
-      let lacks = subst (λ b. BeginsSo means.quota.limiters (means.quota.meaning q) settings asks.now b (means.quota.meaning after)) e asks.begins in
-      record { now = asks.now; known = asks.known; lacking = lacks.0 }
-
-  not_decided : (verdict : RetryAction) (time_source : Bool) (c : InterceptorContext) (old : RetryStrategy P) (q : Q) (a : Answer) (new : RetryStrategy P) (calls : List OutsideCall) (after : Q)
-      → IsDecided means.quota verdict time_source c old q a new calls after → a ≡ answers.Absent → LacksSetting time_source (means.quota.meaning q).has c.view.settings
-  not_decided verdict time_source c (Never never) q a new calls after h e = absurd (let clash = sym e ∙ h.0 in cc clash)
-  not_decided verdict time_source c (Standard standard) q a new calls after h e =
-      let decides = h.2 in
-      let lacks = subst (λ b. DecidesSo means.quota verdict decides.now decides.word c standard q b h.0 after) e decides.decides in
-      record { now = decides.now; known = decides.known; lacking = lacks.0 }
-
   answered : (old new : Parts X Q C I A R Z D P L) (q : Question) (a : Answer) → HandsParts q → HandsKnown (scheme_ids means old) q → (kind_of_question q ≡ kinds.Body → IsOpen old.call) → fits (kind_of_question q) a ≡ true → Answers means old q a new
       → a ≡ answers.Absent → AbsenceCause means old q
   unfolding fits
@@ -160,10 +134,8 @@ module _ {X Q P L C I A R Z D : Type 0} (means : Means X Q P L C I A R Z D) wher
   answered old new (questions.Serialize (Some input) settings) a p k o f h e = not_serialized h.0.0 (sym h.0.2 ∙ e)
   answered old new (questions.Load None) a p k o f h e = absurd (cc)
   answered old new (questions.Load (Some request)) a p k o f h e = not_loaded request.body (sym h.0 ∙ e)
-  answered old new (questions.Initial settings) a p k o f h e =
-      not_begun old.given.time_source settings old.strategy old.quota a new.strategy h.calls new.quota h.begun e
-  answered old new (questions.Start role nanos) a p k o f h e =
-      not_started old.given.sleep_impl role nanos old.sleeps a new.sleeps h.0.calls h.0.these e
+  answered old new (questions.Initial settings) a p k o f h e = (begun_exactly means.quota old.given.time_source settings old.strategy old.quota a new.strategy h.calls new.quota h.begun).0 e
+  answered old new (questions.Start role nanos) a p k o f h e = (absent_without_sleeps old.given.sleep_impl role nanos old.sleeps a new.sleeps h.0.calls h.0.these).0 e
   answered old new (questions.Wait role) a p k o f h e = unfit (questions.Wait role) a refl f e
   answered old new (questions.Choose settings) a p k o f h e = subst (ChoosesWell (scheme_ids means old)) e (chosen_well means old new (questions.Choose settings) a h)
   answered old new (questions.Endpoint settings identity) a p k o f h e = let clash = sym e ∙ h.0 in cc clash
@@ -182,10 +154,19 @@ module _ {X Q P L C I A R Z D : Type 0} (means : Means X Q P L C I A R Z D) wher
   answered old new (questions.Deserialize settings None) a p k o f h e = absurd (cc)
   answered old new (questions.Deserialize settings (Some response)) a p k o f h e = let clash = sym e ∙ h.0.2 in cc clash
   answered old new (questions.Decide settings request response outcome attempt) a p k o f h e =
-      not_decided (verdict_on means.makes means.says old (seen_context (decided_view settings request response outcome attempt))) old.given.time_source (seen_context (decided_view settings request response outcome attempt))
-      old.strategy old.quota a new.strategy h.calls new.quota h.decided e
+      (decided_exactly means.quota (verdict_on means.makes means.says old (seen_context (decided_view settings request response outcome attempt))) old.given.time_source
+      (seen_context (decided_view settings request response outcome attempt)) old.strategy old.quota a new.strategy h.calls new.quota h.decided).0 e
   answered old new (questions.Abandon abandoned) a p k o f h e = unfit (questions.Abandon abandoned) a refl f e
   answered old new questions.Park a p k o f h e = unfit questions.Park a refl f e
+
+  -- where there is a cause
+  caused : (old new : Parts X Q C I A R Z D P L) (q : Question) (a : Answer) → Answers means old q a new → AbsenceCause means old q → a ≡ answers.Absent
+  caused old new (questions.Initial settings) a h c = (begun_exactly means.quota old.given.time_source settings old.strategy old.quota a new.strategy h.calls new.quota h.begun).1 c
+  caused old new (questions.Start role nanos) a h c = (absent_without_sleeps old.given.sleep_impl role nanos old.sleeps a new.sleeps h.0.calls h.0.these).1 c
+  caused old new (questions.Decide settings request response outcome attempt) a h c =
+      (decided_exactly means.quota (verdict_on means.makes means.says old (seen_context (decided_view settings request response outcome attempt))) old.given.time_source
+      (seen_context (decided_view settings request response outcome attempt)) old.strategy old.quota a new.strategy h.calls new.quota h.decided).1 c
+  caused old new _ a h c = absurd c
 
   -- ---- lists
 
@@ -195,7 +176,7 @@ module _ {X Q P L C I A R Z D : Type 0} (means : Means X Q P L C I A R Z D) wher
   last_served (x ∷ before) e old new (mid, serves, rest) = let r = last_served before e mid new rest in (r.0, (mid, serves, r.1), r.2)
 
   pub absences_caused : AbsencesHaveCauses means
-  absences_caused stop p old new before e begun served absent =
+  absences_caused stop p old new before e begun served =
       let at = last_served before e old new served in
       let whole = begun.1 in
       let fitting = fits_of before (e ∷ []) (fits_of (before ++ e ∷ []) begun.0 whole.fitting).0 in
@@ -205,7 +186,9 @@ module _ {X Q P L C I A R Z D : Type 0} (means : Means X Q P L C I A R Z D) wher
         parts = at.0;
         served = at.1;
         given = given_on means before old at.0 at.1;
-        cause =
-            answered at.0 new e.question e.answer (parts_handed stop p before e begun) (subst (HandsKnown (scheme_ids means at.0)) (sym handed) known)
-            (λ k. says_on means before old at.0 false (λ c. absurd (cc c)) at.1 (open_before stop p before e begun k false)) fitting.1.0 at.2 absent;
+        exactly = (
+          answered at.0 new e.question e.answer (parts_handed stop p before e begun) (subst (HandsKnown (scheme_ids means at.0)) (sym handed) known)
+              (λ k. says_on means before old at.0 false (λ c. absurd (cc c)) at.1 (open_before stop p before e begun k false)) fitting.1.0 at.2,
+          caused at.0 new e.question e.answer at.2,
+        );
       }

@@ -241,7 +241,7 @@ struck_bodied d (c ∷ ds) [] w b = absurd w
 struck_bodied d (c ∷ ds) (e ∷ l) (k, inl (p, w)) b = (not_body (kinds.Wait c) e refl k b, struck_bodied d ds l w (opens b (kind_of e) e.answer))
 struck_bodied d (c ∷ ds) (e ∷ l) (k, inr (same, p, r, x, n, i)) b = (
   not_body (kinds.Wait c) e refl k b,
-  subst (Bodied (opens b (kind_of e) e.answer)) (sym n) (λ j. absurd (let clash = sym (ap is_body j) ∙ ap is_body i in cc clash), tt),
+  subst (Bodied (opens b (kind_of e) e.answer)) (sym n) (λ j. absurd (let clash = sym j ∙ i in cc clash), tt),
 )
 
 still_open : (e : Entry) → kind_of e ≡ kinds.Body → pending e ≡ true → opens true (kind_of e) e.answer ≡ true

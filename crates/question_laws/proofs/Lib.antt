@@ -5,4 +5,5 @@ pub mod Choices
 pub mod Schemes
 pub mod Bodies
 pub mod OpenCalls
+pub mod Lacking
 pub mod Answered

@@ -2,6 +2,8 @@
 use Rattle.std.specs.Prelude.{◌≡◌, ◌↔◌, ℕ, Bool, false, IsSome, IsTrue, List, [], ◌∷◌, ◌++◌, Option}
 use Rattle.components.specs.Serving.{Means, Served}
 use Rattle.components.specs.declared.parts.Parts.{Parts}
+use Rattle.retry_parts.specs.declared.strategy.RetryStrategy.{RetryStrategy}
+use Rattle.retry_parts.specs.declared.strategy.RetryStrategy.TheVariants.{Never, Standard}
 use Rattle.retry_policy.specs.Standing.{lacks_setting}
 use Rattle.run_grammar.specs.Laws.{Begins}
 use Rattle.run_grammar.specs.Standing.{start}
@@ -19,23 +21,30 @@ pub record LacksSetting (time_source : Bool) (has_bucket : ℕ → Bool) (settin
   pub known : IsSome now ↔ IsTrue time_source
   pub lacking : IsTrue (lacks_setting settings now has_bucket)
 
+-- the strategy is the one that goes by settings, and lacks one
+abbrev pub StrategyLacks : {P : Type 0} → RetryStrategy P → Bool → (ℕ → Bool) → StandingLayers → Type 0
+StrategyLacks (Never never) time_source has_bucket settings = ⊥
+StrategyLacks (Standard standard) time_source has_bucket settings = LacksSetting time_source has_bucket settings
+
 module _ {X Q P L C I A R Z D : Type 0} (means : Means X Q P L C I A R Z D) where
-  -- the client has no sleeps, or the retry strategy lacks a setting; no other question is answered Absent
+  -- for a Start, that the client has no sleeps; for an Initial and a Decide, that the strategy lacks a setting; nothing
+  -- makes another question Absent
   abbrev pub AbsenceCause : Parts X Q C I A R Z D P L → Question → Type 0
   AbsenceCause parts (questions.Start role nanos) = parts.given.sleep_impl ≡ false
-  AbsenceCause parts (questions.Initial settings) = LacksSetting parts.given.time_source (means.quota.meaning parts.quota).has settings
-  AbsenceCause parts (questions.Decide settings request response outcome attempt) = LacksSetting parts.given.time_source (means.quota.meaning parts.quota).has settings
+  AbsenceCause parts (questions.Initial settings) = StrategyLacks parts.strategy parts.given.time_source (means.quota.meaning parts.quota).has settings
+  AbsenceCause parts (questions.Decide settings request response outcome attempt) = StrategyLacks parts.strategy parts.given.time_source (means.quota.meaning parts.quota).has settings
   AbsenceCause parts _ = ⊥
 
-  -- the cause lies in the parts as the entries before the question left them; what the client was given is as it was
-  pub record HasCause (old : Parts X Q C I A R Z D P L) (before : List Entry) (q : Question) : Type 0 where
+  -- an answer is Absent exactly where there is a cause in the parts, as the entries before it left them; what the
+  -- client was given is as it was
+  pub record IsAbsentByCause (old : Parts X Q C I A R Z D P L) (before : List Entry) (e : Entry) : Type 0 where
     pub parts : Parts X Q C I A R Z D P L
     pub served : Served means old before parts
     pub given : parts.given ≡ old.given
-    pub cause : AbsenceCause parts q
+    pub exactly : (e.answer ≡ answers.Absent) ↔ AbsenceCause parts e.question
 
   -- so it is of each entry of a list that begins a run, where the client's parts answered the list
   abbrev pub AbsencesHaveCauses : Type 0
   AbsencesHaveCauses =
       (stop : StopPoint) (p : Payload) (old new : Parts X Q C I A R Z D P L) (before : List Entry) (e : Entry) → Begins stop (start p) (before ++ e ∷ []) → Served means old (before ++ e ∷ []) new
-      → e.answer ≡ answers.Absent → HasCause old before e.question
+      → IsAbsentByCause old before e

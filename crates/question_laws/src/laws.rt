@@ -18,9 +18,9 @@ pub fn parts_are_handed()
     ensures { PartsAreHanded }
 {}
 
-/// Where a client's parts answered a list that begins a run, a question is answered Absent only
-/// where it is a Start and the client has no sleeps, or an Initial or a Decide for which the
-/// standard retry strategy lacks a setting. No other kind is answered so.
+/// Where a client's parts answered a list that begins a run, the answer Absent comes of Start
+/// exactly where the client has no sleeps, of Initial and Decide exactly where the standard retry
+/// strategy lacks a setting, and of no other kind.
 pub fn absences_have_causes<
     X: Outside + Drop,
     Q: Quota + Drop,
