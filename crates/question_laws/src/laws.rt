@@ -1,0 +1,59 @@
+//! What holds of the questions of all runs. Each law is the contract of a function without a body.
+ghost use Rattle.retry_quota.specs.Calls.{limiters_by};
+ghost use Rattle.question_laws.specs.Answering.{AbsencesHaveCauses};
+ghost use Rattle.question_laws.specs.Handing.{PartsAreHanded};
+
+use auth_endpoint::AuthScheme;
+use auth_parts::{DeserializeResponse, SerializeRequest};
+use identity_cell::ResolveIdentity;
+use outside::Outside;
+use retry_parts::TakeOffer;
+use retry_policy::ClassifyRetry;
+use retry_quota::Quota;
+
+/// In a list that begins a run each question is handed what its kind works on: a Serialize its
+/// input; a Load and a Transmit a request; an Apply a request and an endpoint; a Sign a request,
+/// a scheme's id, an identity and an endpoint; a Stream, a Body and a Deserialize a response.
+pub fn parts_are_handed()
+    ensures { PartsAreHanded }
+{}
+
+/// Where a client's parts answered a list that begins a run, the answer Absent comes of Start
+/// exactly where the client has no sleeps, of Initial and Decide exactly where the standard retry
+/// strategy lacks a setting, and of no other kind.
+pub fn absences_have_causes<
+    X: Outside + Drop,
+    Q: Quota + Drop,
+    C: ClassifyRetry,
+    I: TakeOffer,
+    A: AuthScheme,
+    R: ResolveIdentity,
+    Z: SerializeRequest,
+    D: DeserializeResponse,
+>()
+    ensures { AbsencesHaveCauses (record {
+      makes = X.makes;
+      sleeps = X.sleeps;
+      quota = record {
+        meaning = Q.meaning;
+        permit_bucket = Q.permit_bucket;
+        permit_amount = Q.permit_amount;
+        limiters = limiters_by Q.Limiter.at
+            Q.Limiter.after_acquire Q.Limiter.reply_to Q.Limiter.after_update;
+      };
+      says = C.says;
+      chain = record {
+        names = I.names;
+        hooks = I.hooks;
+        runs = I.runs;
+        with_bucket = I.with_bucket;
+        with_verdict = I.with_verdict;
+      };
+      names = A.names;
+      signs = A.signs;
+      polls = R.polls;
+      serializes = Z.serializes;
+      streams = D.streams;
+      deserializes = D.deserializes;
+    }) }
+{}

@@ -1,0 +1,4 @@
+//! What a question of a run is handed.
+#![tactic(auto)]
+
+pub mod laws;
