@@ -2,6 +2,12 @@
 ghost use Rattle.retry_quota.specs.Calls.{limiters_by};
 ghost use Rattle.question_laws.specs.Answering.{AbsencesHaveCauses};
 ghost use Rattle.question_laws.specs.Handing.{PartsAreHanded};
+ghost use Rattle.question_laws.specs.Loading.{
+  BeginsAlone,
+  ExchangedAlone,
+  LoadsStayAlone,
+  PendingChoicesAsked,
+};
 
 use auth_endpoint::AuthScheme;
 use auth_parts::{DeserializeResponse, SerializeRequest};
@@ -32,6 +38,111 @@ pub fn absences_have_causes<
     D: DeserializeResponse,
 >()
     ensures { AbsencesHaveCauses (record {
+      makes = X.makes;
+      sleeps = X.sleeps;
+      quota = record {
+        meaning = Q.meaning;
+        permit_bucket = Q.permit_bucket;
+        permit_amount = Q.permit_amount;
+        limiters = limiters_by Q.Limiter.at
+            Q.Limiter.after_acquire Q.Limiter.reply_to Q.Limiter.after_update;
+      };
+      says = C.says;
+      chain = record {
+        names = I.names;
+        hooks = I.hooks;
+        runs = I.runs;
+        with_bucket = I.with_bucket;
+        with_verdict = I.with_verdict;
+      };
+      names = A.names;
+      signs = A.signs;
+      polls = R.polls;
+      serializes = Z.serializes;
+      streams = D.streams;
+      deserializes = D.deserializes;
+    }) }
+{}
+
+/// Of a client's cache no cell is loading but that of the load that is open: at its start, behind
+/// whatever it answers, and where its outside and quota are exchanged.
+pub fn loads_are_alone<
+    X: Outside + Drop,
+    Q: Quota + Drop,
+    C: ClassifyRetry,
+    I: TakeOffer,
+    A: AuthScheme,
+    R: ResolveIdentity,
+    Z: SerializeRequest,
+    D: DeserializeResponse,
+>()
+    ensures begun { BeginsAlone R }
+    ensures served { LoadsStayAlone (record {
+      makes = X.makes;
+      sleeps = X.sleeps;
+      quota = record {
+        meaning = Q.meaning;
+        permit_bucket = Q.permit_bucket;
+        permit_amount = Q.permit_amount;
+        limiters = limiters_by Q.Limiter.at
+            Q.Limiter.after_acquire Q.Limiter.reply_to Q.Limiter.after_update;
+      };
+      says = C.says;
+      chain = record {
+        names = I.names;
+        hooks = I.hooks;
+        runs = I.runs;
+        with_bucket = I.with_bucket;
+        with_verdict = I.with_verdict;
+      };
+      names = A.names;
+      signs = A.signs;
+      polls = R.polls;
+      serializes = Z.serializes;
+      streams = D.streams;
+      deserializes = D.deserializes;
+    }) }
+    ensures exchanged { ExchangedAlone (record {
+      makes = X.makes;
+      sleeps = X.sleeps;
+      quota = record {
+        meaning = Q.meaning;
+        permit_bucket = Q.permit_bucket;
+        permit_amount = Q.permit_amount;
+        limiters = limiters_by Q.Limiter.at
+            Q.Limiter.after_acquire Q.Limiter.reply_to Q.Limiter.after_update;
+      };
+      says = C.says;
+      chain = record {
+        names = I.names;
+        hooks = I.hooks;
+        runs = I.runs;
+        with_bucket = I.with_bucket;
+        with_verdict = I.with_verdict;
+      };
+      names = A.names;
+      signs = A.signs;
+      polls = R.polls;
+      serializes = Z.serializes;
+      streams = D.streams;
+      deserializes = D.deserializes;
+    }) }
+{}
+
+/// Where it is so, each choice that is answered Pending asked the source of the scheme that it
+/// picked, and the source answered Pending: the outside's `resolve`, or the resolver that is
+/// registered.
+pub fn pending_choices_asked<
+    X: Outside + Drop,
+    Q: Quota + Drop,
+    C: ClassifyRetry,
+    I: TakeOffer,
+    A: AuthScheme,
+    R: ResolveIdentity,
+    Z: SerializeRequest,
+    D: DeserializeResponse,
+>()
+    ensures { PendingChoicesAsked (record {
       makes = X.makes;
       sleeps = X.sleeps;
       quota = record {
