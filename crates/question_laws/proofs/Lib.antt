@@ -10,3 +10,5 @@ pub mod Answered
 pub mod Loads
 pub mod Pendings
 pub mod PendingChoices
+pub mod OwnChoices
+pub mod OwnRuns

@@ -1,6 +1,6 @@
 -- No cell of a cache is loading but that of the load that is open.
-use Rattle.std.proofs.Common.{◌≡◌, ◌∙◌, refl, sym, ap, subst, ℕ, ◌+◌, Bool, true, false, cond, List, [], ◌∷◌, ◌++◌, length, remove, Option, None, Some, is_some, unwrap_or, nat_lt, add-zero}
-use Rattle.std.proofs.lemmas.Bool.{eq-eqb, lt-ltb}
+use Rattle.std.proofs.Common.{◌≡◌, ◌∙◌, refl, sym, ap, subst, ℕ, ◌+◌, ◌<◌, Bool, true, false, cond, List, [], ◌∷◌, ◌++◌, length, remove, Option, None, Some, is_some, unwrap_or, nat_lt, add-zero, arith}
+use Rattle.std.proofs.lemmas.Bool.{eq-eqb, lt-ltb, ltb-true}
 use Rattle.std.specs.Map.{lookup, set_value}
 use Rattle.identity_cell.proofs.CellLemmas.{same_ticket}
 use Rattle.identity_cell.proofs.HistoryLemmas.{begun_in-append}
@@ -142,10 +142,12 @@ put_idle cache id new none is = by (is_some (lookup (is_id id) cache.cells))
 abbrev Drops : (List ℕ → Bool) → List Entry → Cell Identity → ℕ → Type 0
 Drops test es new ticket = NoneLoading (set_value test es (after_end (unwrap_or (lookup test es) new) ticket Empty (event.Dropped ticket)))
 
+ended : (cell : Cell Identity) (ticket : ℕ) (next : CellState Identity) (e : Event) → cell.state ≡ Loading ticket → (after_end cell ticket next e).state ≡ next
+ended cell ticket next e is =
+    subst (λ s. (cond (is_open s ticket) (moved cell next e) cell).state ≡ next) (sym is) (ap (λ (c : Cell Identity). c.state) (same_ticket ticket (moved cell next e) cell))
+
 ended_state : (cell : Cell Identity) (ticket : ℕ) → cell.state ≡ Loading ticket → is_loading (after_end cell ticket Empty (event.Dropped ticket)).state ≡ false
-ended_state cell ticket is =
-    let next = moved cell Empty (event.Dropped ticket) in
-    subst (λ s. is_loading (cond (is_open s ticket) next cell).state ≡ false) (sym is) (ap (λ (c : Cell Identity). is_loading c.state) (same_ticket ticket next cell))
+ended_state cell ticket is = ap is_loading (ended cell ticket Empty (event.Dropped ticket) is)
 
 found_drops : (test : List ℕ → Bool) (es : List Entry) (old new fresh : Cell Identity) (ticket : ℕ) → lookup test es ≡ Some old → NoneLoading es → new.state ≡ Loading ticket → Drops test (set_value test es new) fresh ticket
 found_drops test es old new fresh ticket found none is =
@@ -189,3 +191,39 @@ begun_idle cache id new ticket none is = by (lookup (is_id id) cache.cells) refl
     by : (o : Option (Cell Identity)) → lookup (is_id id) cache.cells ≡ o → NoneLoading (dropped_at (cond (is_some o) (with_cell cache id new) (within_most (with_last cache id new))) id ticket).cells
     by None there = within (nat_lt cache.terms.max_partitions (length (cache.cells ++ (id, new) ∷ []))) there
     by (Some cell) there = found_drops (is_id id) cache.cells cell new (empty_cell cache.terms.buffer) ticket there none is
+
+-- ---- what the cell of a load has
+
+-- the cell of a load that is begun waits for it, where the cache keeps any cell
+pub begun_waits : (cache : Cache) (id : List ℕ) (new : Cell Identity) (ticket : ℕ) → new.state ≡ Loading ticket → 0 < (put cache id new).terms.max_partitions → (cell_at (put cache id new) id).state ≡ Loading ticket
+begun_waits cache id new ticket is some = by (lookup (is_id id) cache.cells) refl some
+  where
+    state_in : Option (Cell Identity) → CellState Identity
+    state_in o = (unwrap_or o (empty_cell cache.terms.buffer)).state
+
+    rest : (es : List Entry) → lookup (is_id id) es ≡ None → nat_lt cache.terms.max_partitions (length (es ++ (id, new) ∷ [])) ≡ true → 0 < cache.terms.max_partitions
+        → state_in (lookup (is_id id) (remove (es ++ (id, new) ∷ []) 0)) ≡ Loading ticket
+    rest [] there more k = absurd (omega (arith, ltb-true cache.terms.max_partitions 1 more))
+    rest (e ∷ es) there more k = ap state_in (lookup_last (is_id id) es id new (same_id id) (later_none (is_id id) e es there).1) ∙ is
+
+    within : (b : Bool) → nat_lt cache.terms.max_partitions (length (cache.cells ++ (id, new) ∷ [])) ≡ b → lookup (is_id id) cache.cells ≡ None → 0 < (cond b (without_oldest (with_last cache id new)) (with_last cache id new)).terms.max_partitions
+        → (cell_at (cond b (without_oldest (with_last cache id new)) (with_last cache id new)) id).state ≡ Loading ticket
+    within true more there k = rest cache.cells there more k
+    within false more there k = ap state_in (lookup_last (is_id id) cache.cells id new (same_id id) there) ∙ is
+
+    by : (o : Option (Cell Identity)) → lookup (is_id id) cache.cells ≡ o → 0 < (cond (is_some o) (with_cell cache id new) (within_most (with_last cache id new))).terms.max_partitions
+        → (cell_at (cond (is_some o) (with_cell cache id new) (within_most (with_last cache id new))) id).state ≡ Loading ticket
+    by None there k = within (nat_lt cache.terms.max_partitions (length (cache.cells ++ (id, new) ∷ []))) refl there k
+    by (Some cell) there k = ap state_in (written (is_id id) cache.cells cell new there) ∙ is
+
+-- the cell that waited has the identity
+pub done_full : (cache : Cache) (id : List ℕ) (ticket : ℕ) (identity : Identity) (expiry : ℕ) → (cell_at cache id).state ≡ Loading ticket → (cell_at (done_at cache id ticket identity expiry) id).state ≡ Full ticket identity expiry
+done_full cache id ticket identity expiry waits =
+    by (lookup (is_id id) cache.cells) refl waits (after_end (cell_at cache id) ticket (Full ticket identity expiry) (event.Done ticket expiry))
+    (ended (cell_at cache id) ticket (Full ticket identity expiry) (event.Done ticket expiry) waits)
+  where
+    by : (found : Option (Cell Identity)) → lookup (is_id id) cache.cells ≡ found → (unwrap_or found (empty_cell cache.terms.buffer)).state ≡ Loading ticket
+        → (new : Cell Identity) → new.state ≡ Full ticket identity expiry
+        → (unwrap_or (lookup (is_id id) (set_value (is_id id) cache.cells new)) (empty_cell cache.terms.buffer)).state ≡ Full ticket identity expiry
+    by None there h new full = absurd (cc h)
+    by (Some cell) there h new full = ap (λ o. (unwrap_or o (empty_cell cache.terms.buffer)).state) (written (is_id id) cache.cells cell new there) ∙ full

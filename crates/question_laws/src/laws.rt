@@ -8,6 +8,7 @@ ghost use Rattle.question_laws.specs.Loading.{
   LoadsStayAlone,
   PendingChoicesAsked,
 };
+ghost use Rattle.question_laws.specs.OwnLoads.{ChoicesGoOnWithOwn};
 
 use auth_endpoint::AuthScheme;
 use auth_parts::{DeserializeResponse, SerializeRequest};
@@ -143,6 +144,47 @@ pub fn pending_choices_asked<
     D: DeserializeResponse,
 >()
     ensures { PendingChoicesAsked (record {
+      makes = X.makes;
+      sleeps = X.sleeps;
+      quota = record {
+        meaning = Q.meaning;
+        permit_bucket = Q.permit_bucket;
+        permit_amount = Q.permit_amount;
+        limiters = limiters_by Q.Limiter.at
+            Q.Limiter.after_acquire Q.Limiter.reply_to Q.Limiter.after_update;
+      };
+      says = C.says;
+      chain = record {
+        names = I.names;
+        hooks = I.hooks;
+        runs = I.runs;
+        with_bucket = I.with_bucket;
+        with_verdict = I.with_verdict;
+      };
+      names = A.names;
+      signs = A.signs;
+      polls = R.polls;
+      serializes = Z.serializes;
+      streams = D.streams;
+      deserializes = D.deserializes;
+    }) }
+{}
+
+/// In a list that begins a run, where a client's parts answered it, a load that is open before a
+/// choice is of the scheme that the choice picks; behind the choice one is open only where it is
+/// pending. Where a choice's note is Load, its scheme's cell has its identity, where the cache
+/// keeps any cell.
+pub fn choices_go_on_with_their_own_load<
+    X: Outside + Drop,
+    Q: Quota + Drop,
+    C: ClassifyRetry,
+    I: TakeOffer,
+    A: AuthScheme,
+    R: ResolveIdentity,
+    Z: SerializeRequest,
+    D: DeserializeResponse,
+>()
+    ensures { ChoicesGoOnWithOwn (record {
       makes = X.makes;
       sleeps = X.sleeps;
       quota = record {
