@@ -170,7 +170,7 @@ module _ {X Q P L C I A R Z D : Type 0} (means : Means X Q P L C I A R Z D) wher
 
   -- ---- lists
 
-  last_served : (before : List Entry) (e : Entry) (old new : Parts X Q C I A R Z D P L) → Served means old (before ++ e ∷ []) new
+  pub last_served : (before : List Entry) (e : Entry) (old new : Parts X Q C I A R Z D P L) → Served means old (before ++ e ∷ []) new
       → (mid : Parts X Q C I A R Z D P L) × Served means old before mid × Answers means mid e.question e.answer new
   last_served [] e old new (mid, serves, same) = (old, refl, subst (Answers means old e.question e.answer) (sym same) serves)
   last_served (x ∷ before) e old new (mid, serves, rest) = let r = last_served before e mid new rest in (r.0, (mid, serves, r.1), r.2)

@@ -51,11 +51,11 @@ the_option lack ordered place id c there =
     let placed = subst (λ n. slice_get (c.earlier ++ c.option ∷ c.later) n ≡ Some id) c.place_is split in
     sym (get_or-append_seam c.earlier c.option c.later id) ∙ get_or_from_slice_get (c.earlier ++ c.option ∷ c.later) (length c.earlier) id id placed
 
-abbrev IsKnown : List (List ℕ) → List (List ℕ) → Picked → Type 0
+abbrev pub IsKnown : List (List ℕ) → List (List ℕ) → Picked → Type 0
 IsKnown schemes sources (Scheme id) = (is_named schemes id ≡ true) × (is_named sources id ≡ true)
 IsKnown schemes sources (Refused text) = Unit {0}
 
-known : (schemes sources options : List (List ℕ)) (endpoint : Option Endpoint) (settings : StandingLayers) (picked : Picked) → Picks schemes sources options endpoint settings picked → IsKnown schemes sources picked
+pub known : (schemes sources options : List (List ℕ)) (endpoint : Option Endpoint) (settings : StandingLayers) (picked : Picked) → Picks schemes sources options endpoint settings picked → IsKnown schemes sources picked
 known schemes sources options endpoint settings (Refused text) h = tt
 known schemes sources options endpoint settings (Scheme id) (place, chosen, there) =
     subst (λ o. (is_named schemes o ≡ true) × (is_named sources o ≡ true))
@@ -88,7 +88,7 @@ module _ {R : Type 0} (polls : R → IdentityPoll → R → Type 0) where
   abbrev ids : List (RegisteredSource R) → List (List ℕ)
   ids sources = map (λ (s : RegisteredSource R). s.id) sources
 
-  asked : (id : List ℕ) (place : Option ℕ) (old : List (RegisteredSource R)) (load : OpenLoad) (answer : Option IdentityPoll) (new : List (RegisteredSource R)) (load_after : OpenLoad) (calls : List OutsideCall)
+  pub asked : (id : List ℕ) (place : Option ℕ) (old : List (RegisteredSource R)) (load : OpenLoad) (answer : Option IdentityPoll) (new : List (RegisteredSource R)) (load_after : OpenLoad) (calls : List OutsideCall)
       → (place ≡ None → ⊥) → Asks polls id place old load answer new load_after calls → (one : IdentityPoll) × (answer ≡ Some one)
   asked id None old load answer new load_after calls n h = absurd (n refl)
   asked id (Some place) old load None new load_after calls n h = absurd h

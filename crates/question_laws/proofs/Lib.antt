@@ -7,3 +7,8 @@ pub mod Bodies
 pub mod OpenCalls
 pub mod Lacking
 pub mod Answered
+pub mod Loads
+pub mod Pendings
+pub mod PendingChoices
+pub mod OwnChoices
+pub mod OwnRuns

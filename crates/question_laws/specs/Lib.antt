@@ -1,2 +1,4 @@
 pub mod Handing
 pub mod Answering
+pub mod Loading
+pub mod OwnLoads
