@@ -2,7 +2,7 @@
 
 use crate::client::Step::{Abandon, Body, EndAll, Park, Start, Transmit, Unread};
 use crate::client::{Row, Sends};
-use crate::replay_script::{Comes, Ending, Head};
+use crate::scripts::{Comes, Ending, Head};
 use crate::standing::{NOTHING, UPLOAD};
 use run_grammar::{Abandonable, Role};
 

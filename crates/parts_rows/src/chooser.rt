@@ -1,8 +1,8 @@
 //! A client as far as its choice of a scheme and an identity goes.
 
 use crate::noted::NotedOutside;
-use crate::replay_script::{Ending, Source, outside};
 use crate::said::{answer_text, asked_text};
+use crate::scripts::{Ending, Source, outside};
 use crate::service::Scheme;
 use crate::standing::choosing;
 use anyhow::Result as Told;

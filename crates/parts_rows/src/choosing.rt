@@ -2,7 +2,7 @@
 
 use crate::chooser::Step::{Choose, End, Park};
 use crate::chooser::{From, Row};
-use crate::replay_script::Gives;
+use crate::scripts::Gives;
 use identity_cell::{LazyCacheTerms, SharedIdentityCache};
 
 // A cache whose loads may take as long as the settings say.

@@ -1,7 +1,7 @@
 //! A client as far as its sleeps and its call at the connector go.
 
 use crate::noted::NotedOutside;
-use crate::replay_script::{Comes, Ending, outside};
+use crate::scripts::{Comes, Ending, outside};
 use crate::standing::{Protection, protecting};
 use body_guard::UploadThroughputCheck;
 use call_parts::body::body;

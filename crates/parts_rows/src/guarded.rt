@@ -2,7 +2,7 @@
 
 use crate::client::Step::{Abandon, Body, Park, Transmit};
 use crate::client::{Row, Sends};
-use crate::replay_script::{Comes, Ending, Head};
+use crate::scripts::{Comes, Ending, Head};
 use crate::standing::{DOWNLOAD, GRACE, LENGTH};
 use run_grammar::Abandonable;
 

@@ -1,6 +1,6 @@
 //! A scripted outside that notes what it is asked.
 
-use crate::replay_script::Ending;
+use crate::scripts::Ending;
 use outside::{IdentityPoll, Outside, Polled, Sent};
 use scripted::ScriptedOutside;
 use smithy_context::Settings;

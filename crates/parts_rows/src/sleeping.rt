@@ -2,7 +2,7 @@
 
 use crate::client::Step::{Abandon, EndAll, EndRole, Load, Park, Start, Wait};
 use crate::client::{Row, Sends};
-use crate::replay_script::Ending;
+use crate::scripts::Ending;
 use crate::standing::NOTHING;
 use run_grammar::{Abandonable, Role};
 
