@@ -20,6 +20,7 @@ EXAMPLES = [
     (["replay"], "examples/teapot.json"),
     (["check"], "examples/teapot.txt"),
     (["client"], "examples/client/a_retry_after_503.json"),
+    (["client"], "examples/client/rows/two_retries.json"),
     (["fleet"], "examples/fleet/a_retry_each.json"),
     (["wait"], "examples/wait/fifth_poll.json"),
     (["waiters"], "examples/waiters/both.json"),

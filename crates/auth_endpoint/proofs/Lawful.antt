@@ -1,8 +1,7 @@
 -- The laws of orders, choices and endpoints.
-use Rattle.std.proofs.Common.{◌≡◌, ◌++◌, ◌∷◌, [], ℕ, zero, suc, ◌+◌, ◌<◌, ◌≤◌, not, length, take, get_or, List, Option, None, Some, IsSome, All, refl, sym, ap, ◌∙◌, subst, arith, Bool, true, false}
+use Rattle.std.proofs.Common.{◌≡◌, ◌++◌, ◌∷◌, [], ℕ, suc, not, length, List, Option, None, Some, IsSome, All, refl, sym, ap, ◌∙◌, subst, Bool, true, false}
 use Rattle.std.specs.List.{filter}
 use Rattle.std.specs.List.Sorted.{IsPermutation}
-use Rattle.std.proofs.lemmas.Grind.{common_steps}
 use Rattle.std.proofs.lemmas.List.Elements.{All-head, All-tail}
 use Rattle.std.proofs.lemmas.List.Sorted.{IsPermutation-refl, IsPermutation-trans, IsPermutation-filter_both, IsPermutation-append_comm}
 use Rattle.http_uri.specs.declared.uri.Uri.{Uri as Target}
@@ -13,7 +12,7 @@ use Rattle.auth_endpoint.specs.Endpoint.{IsApplied, whole_text, joined_authority
 use Rattle.auth_endpoint.specs.declared.explored.ExploredList.{ExploredList}
 use Rattle.auth_endpoint.specs.declared.explored.ExploreResult.{ExploreResult}
 use Rattle.auth_endpoint.proofs.ChoiceLemmas.{refused_all}
-use Rattle.auth_endpoint.proofs.PreferenceLemmas.{IsOrdered, ordered_none, ordered_more}
+use Rattle.auth_endpoint.proofs.PreferenceLemmas.{IsOrdered, ordered_none, ordered_again, ordered_last, ordered_through}
 
 -- ---- orders
 
@@ -25,32 +24,22 @@ moves_on now new p made = subst (λ l. IsPermutation now l) (sym made) (IsPermut
     twice true = refl
     twice false = refl
 
-same_read : {X : Type 0} (xs : List X) (n : ℕ) (d : X) → n < length xs → get_or xs n d ≡ get_or xs n (get_or xs n d)
-same_read xs n d h = grind (arith, common_steps)
-
--- the options behind each name are those that there were
-walked : (names options : List (List ℕ)) (i : ℕ) → i ≤ length names → (now : List (List ℕ)) × IsOrdered (take i names) options now × IsPermutation options now
-walked names options zero h = (options, ordered_none options, IsPermutation-refl options)
-walked names options (suc i) h = further i (omega (arith, h)) (walked names options i (omega (arith, h)))
+-- behind the names that are left stand the options that there were
+walked : (names options left now : List (List ℕ)) → IsOrdered names options left now → IsPermutation options now → IsPermutation options (filter (λ o. not (is_named names o)) options ++ preferred names options)
+walked names options [] now o p = subst (λ l. IsPermutation options l) (ordered_through names options now o) p
+walked names options (q ∷ left) now o p = further (is_named left q) refl (λ new n s. walked names options left new n s)
   where
-    further : (i : ℕ) → i < length names → (now : List (List ℕ)) × IsOrdered (take i names) options now × IsPermutation options now → (now : List (List ℕ)) × IsOrdered (take (suc i) names) options now × IsPermutation options now
-    further i within (now, o, p) =
-        let name = get_or names i [] in
-        let new = filter (λ o. not (is_id name o)) now ++ filter (is_id name) now in
-        let e : i + 1 ≡ suc i = omega arith in
-        (new, subst (λ n. IsOrdered (take n names) options new) e (ordered_more names options now new i name o within (same_read names i [] within) refl), IsPermutation-trans options now new p (moves_on now new name refl))
+    further : (b : Bool) → is_named left q ≡ b → ((new : List (List ℕ)) → IsOrdered names options left new → IsPermutation options new → IsPermutation options (filter (λ o. not (is_named names o)) options ++ preferred names options)) → IsPermutation options (filter (λ o. not (is_named names o)) options ++ preferred names options)
+    further true again on = on now (ordered_again names options left now q o again) p
+    further false last on =
+        let new = filter (λ o. not (is_id q o)) now ++ filter (is_id q) now in
+        on new (ordered_last names options left now new q o last refl) (IsPermutation-trans options now new p (moves_on now new q refl))
 
 pub only_reorders : (preference : Option (List (List ℕ))) (options : List (List ℕ)) → IsPermutation options (reprioritized preference options)
 only_reorders None options = IsPermutation-refl options
-only_reorders (Some names) options = turned (walked names options (length names) (omega arith))
-  where
-    whole : {X : Type 0} (xs : List X) → take (length xs) xs ≡ xs
-    whole xs = grind (arith, common_steps)
-
-    turned : (now : List (List ℕ)) × IsOrdered (take (length names) names) options now × IsPermutation options now → IsPermutation options (preferred names options ++ filter (λ o. not (is_named names o)) options)
-    turned (now, o, p) =
-        let e = o ∙ ap (λ l. filter (λ o. not (is_named l o)) options ++ preferred l options) (whole names) in
-        IsPermutation-trans options (filter (λ o. not (is_named names o)) options ++ preferred names options) (preferred names options ++ filter (λ o. not (is_named names o)) options) (subst (λ l. IsPermutation options l) e p) (IsPermutation-append_comm (filter (λ o. not (is_named names o)) options) (preferred names options))
+only_reorders (Some names) options =
+    let unnamed = filter (λ o. not (is_named names o)) options in
+    IsPermutation-trans options (unnamed ++ preferred names options) (preferred names options ++ unnamed) (walked names options names options (ordered_none names options) (IsPermutation-refl options)) (IsPermutation-append_comm unnamed (preferred names options))
 
 -- ---- choices
 

@@ -1,12 +1,12 @@
 -- Lists that are parted by a test.
-use Rattle.std.proofs.Common.{◌≡◌, ◌++◌, ◌∷◌, [], not, ℕ, ◌+◌, ◌<◌, ◌≤◌, length, take, drop, get_or, Bool, true, false, cond, ◌&&◌, ◌||◌, List, refl, sym, ap, ◌∙◌, arith, append_assoc, if◌then◌else◌}
+use Rattle.std.proofs.Common.{◌≡◌, ◌++◌, ◌∷◌, [], not, ℕ, ◌+◌, ◌-◌, ◌<◌, ◌≤◌, length, take, drop, get_or, Bool, true, false, cond, ◌&&◌, ◌||◌, List, refl, sym, ap, ◌∙◌, arith, append_assoc}
 use Rattle.std.specs.List.{filter, remove}
 use Rattle.std.proofs.lemmas.Grind.{common_steps}
-use Rattle.std.proofs.lemmas.List.{take_more, drop_more, append-nil}
+use Rattle.std.proofs.lemmas.List.{drop_more, append-nil, length-drop}
 use Rattle.std.proofs.lemmas.List.Elements.{filter-append, filter_more, filter_agree}
-use Rattle.std.proofs.lemmas.List.Folds.{list_any-append}
 use Rattle.std.proofs.lemmas.Slice.Eq.{bytes_eq-Decides}
-use Rattle.std.proofs.Math.Seq.{drop-append_seam, take-append_seam}
+use Rattle.std.proofs.Math.ListN.{drop_of_length-le}
+use Rattle.std.proofs.Math.Seq.{drop-append_seam, take-append_seam, take-length}
 use Rattle.auth_endpoint.specs.Choice.{is_id, is_named, preferred}
 
 -- ---- one test
@@ -147,128 +147,140 @@ other_id p q options differ = filter_twice (is_id p) (is_id q) options ∙ filte
     none x true e = rw (id_is p x e, differ) refl
     none x false e = rw e (and_false (is_id q x))
 
-same_id : (p : List ℕ) (options : List (List ℕ)) → filter (is_id p) (filter (is_id p) options) ≡ filter (is_id p) options
-same_id p options = filter_twice (is_id p) (is_id p) options ∙ filter_agree (λ x. is_id p x && is_id p x) (is_id p) (λ x. twice (is_id p x)) options
+-- nothing has this id, so all stays without it
+without_none : (p : List ℕ) (options : List (List ℕ)) → filter (is_id p) options ≡ [] → filter (λ o. not (is_id p o)) options ≡ options
+without_none p [] none = refl
+without_none p (o ∷ options) none = stays (is_id p o) refl (λ h. without_none p options h)
   where
-    twice : (b : Bool) → b && b ≡ b
-    twice true = refl
-    twice false = refl
+    not_empty : {X : Type 0} (x : X) (xs : List X) → x ∷ xs ≡ [] → ⊥
+    not_empty x xs e = cc
 
-without_same : (p : List ℕ) (options : List (List ℕ)) → filter (λ o. not (is_id p o)) (filter (is_id p) options) ≡ []
-without_same p options = filter_twice (λ o. not (is_id p o)) (is_id p) options ∙ filter_none (λ x. is_id p x && not (is_id p x)) options (λ x. never (is_id p x))
-  where
-    never : (b : Bool) → b && not b ≡ false
-    never true = refl
-    never false = refl
-
-without_other : (p q : List ℕ) (options : List (List ℕ)) → is_id q p ≡ false → filter (λ o. not (is_id p o)) (filter (is_id q) options) ≡ filter (is_id q) options
-without_other p q options differ = filter_twice (λ o. not (is_id p o)) (is_id q) options ∙ filter_agree (λ x. is_id q x && not (is_id p x)) (is_id q) (λ x. stays x (is_id p x) refl) options
-  where
-    stays : (x : List ℕ) (b : Bool) → is_id p x ≡ b → is_id q x && not (is_id p x) ≡ is_id q x
-    stays x true e = rw (id_is p x e, differ) refl
-    stays x false e = rw e (and_true (is_id q x))
-
--- of what is preferred so far, those of one id
-preferred_of : (p : List ℕ) (names options : List (List ℕ)) → filter (is_id p) (preferred names options) ≡ (if is_named names p then filter (is_id p) options else [])
-preferred_of p [] options = refl
-preferred_of p (q ∷ names) options =
-    filter-append (is_id p) (if is_named names q then [] else filter (is_id q) options) (preferred names options)
-    ∙ ap (λ l. filter (is_id p) (if is_named names q then [] else filter (is_id q) options) ++ l) (preferred_of p names options)
-    ∙ joined (is_id p q) (is_named names q) (is_named names p) refl refl refl
-  where
-    joined : (same again named : Bool) → is_id p q ≡ same → is_named names q ≡ again → is_named names p ≡ named → filter (is_id p) (if is_named names q then [] else filter (is_id q) options) ++ (if is_named names p then filter (is_id p) options else []) ≡ (if is_id p q || is_named names p then filter (is_id p) options else [])
-    joined true true true e a n = rw (e, a, n) refl
-    joined true true false e a n = absurd (clash (sym n ∙ ap (λ t. is_named names t) (sym (id_is p q e)) ∙ a))
-    joined true false true e a n = absurd (clash (sym a ∙ ap (λ t. is_named names t) (id_is p q e) ∙ n))
-    joined true false false e a n = rw (e, a, n, id_is p q e) (append-nil (filter (is_id p) (filter (is_id p) options)) ∙ same_id p options)
-    joined false true true e a n = rw (e, a, n) refl
-    joined false true false e a n = rw (e, a, n) refl
-    joined false false true e a n = rw (e, a, n) (ap (λ l. l ++ filter (is_id p) options) (other_id p q options (sym (id_turned p q) ∙ e)))
-    joined false false false e a n = rw (e, a, n) (append-nil (filter (is_id p) (filter (is_id q) options)) ∙ other_id p q options (sym (id_turned p q) ∙ e))
-
--- one name more: its options go behind the others
-preferred_more : (p : List ℕ) (names options : List (List ℕ)) → preferred (names ++ p ∷ []) options ≡ filter (λ o. not (is_id p o)) (preferred names options) ++ filter (is_id p) options
-preferred_more p [] options = append-nil (filter (is_id p) options)
-preferred_more p (q ∷ names) options =
-    ap (λ l. (if is_named (names ++ p ∷ []) q then [] else filter (is_id q) options) ++ l) (preferred_more p names options)
-    ∙ sym (append_assoc (if is_named (names ++ p ∷ []) q then [] else filter (is_id q) options) (filter (λ o. not (is_id p o)) (preferred names options)) (filter (is_id p) options))
-    ∙ ap (λ l. l ++ filter (is_id p) options) (
-    ap (λ l. l ++ filter (λ o. not (is_id p o)) (preferred names options)) (rw (list_any-append (is_id q) names (p ∷ [])) (head (is_named names q) (is_id q p) refl refl))
-    ∙ sym (filter-append (λ o. not (is_id p o)) (if is_named names q then [] else filter (is_id q) options) (preferred names options)))
-  where
-    head : (again same : Bool) → is_named names q ≡ again → is_id q p ≡ same → (if is_named names q || (is_id q p || false) then [] else filter (is_id q) options) ≡ filter (λ o. not (is_id p o)) (if is_named names q then [] else filter (is_id q) options)
-    head true same a e = rw a refl
-    head false true a e = rw (a, e, sym (id_is q p e)) (sym (without_same p options))
-    head false false a e = rw (a, e) (sym (without_other p q options e))
-
--- what isn't named so far, without one name more
-unnamed_more : (p : List ℕ) (names options : List (List ℕ)) → filter (λ o. not (is_named (names ++ p ∷ []) o)) options ≡ filter (λ o. not (is_id p o)) (filter (λ o. not (is_named names o)) options)
-unnamed_more p names options = filter_agree (λ o. not (is_named (names ++ p ∷ []) o)) (λ o. not (is_named names o) && not (is_id p o)) (λ o. ap not (list_any-append (is_id o) names (p ∷ [])) ∙ ap (λ b. not (is_named names o || (b || false))) (id_turned o p) ∙ neither (is_named names o) (is_id p o)) options ∙ sym (filter_twice (λ o. not (is_id p o)) (λ o. not (is_named names o)) options)
-  where
-    neither : (a b : Bool) → not (a || (b || false)) ≡ not a && not b
-    neither true b = refl
-    neither false true = refl
-    neither false false = refl
-
--- the options of one id, those that aren't named so far first
-all_of_id : (p : List ℕ) (names options : List (List ℕ)) → filter (is_id p) (filter (λ o. not (is_named names o)) options) ++ filter (is_id p) (preferred names options) ≡ filter (is_id p) options
-all_of_id p names options =
-    ap (λ l. filter (is_id p) (filter (λ o. not (is_named names o)) options) ++ l) (preferred_of p names options)
-    ∙ ap (λ l. l ++ (if is_named names p then filter (is_id p) options else [])) (filter_twice (is_id p) (λ o. not (is_named names o)) options)
-    ∙ parted (is_named names p) refl
-  where
-    hidden : (x : List ℕ) (b : Bool) → is_id p x ≡ b → is_named names p ≡ true → not (is_named names x) && is_id p x ≡ false
-    hidden x true e n = rw (id_is p x e, n) refl
-    hidden x false e n = rw e (and_false (not (is_named names x)))
-
-    shown : (x : List ℕ) (b : Bool) → is_id p x ≡ b → is_named names p ≡ false → not (is_named names x) && is_id p x ≡ is_id p x
-    shown x true e n = rw (id_is p x e, n) refl
-    shown x false e n = rw e (and_false (not (is_named names x)))
-
-    parted : (b : Bool) → is_named names p ≡ b → filter (λ x. not (is_named names x) && is_id p x) options ++ (if is_named names p then filter (is_id p) options else []) ≡ filter (is_id p) options
-    parted true n = rw n (ap (λ l. l ++ filter (is_id p) options) (filter_none (λ x. not (is_named names x) && is_id p x) options (λ x. hidden x (is_id p x) refl n)))
-    parted false n = rw n (append-nil (filter (λ x. not (is_named names x) && is_id p x) options) ∙ filter_agree (λ x. not (is_named names x) && is_id p x) (is_id p) (λ x. shown x (is_id p x) refl n) options)
+    stays : (b : Bool) → is_id p o ≡ b → (filter (is_id p) options ≡ [] → filter (λ o. not (is_id p o)) options ≡ options) → filter (λ o. not (is_id p o)) (o ∷ options) ≡ o ∷ options
+    stays true e later =
+        let kept : filter (is_id p) (o ∷ options) ≡ o ∷ filter (is_id p) options = rw e refl in
+        absurd (not_empty o (filter (is_id p) options) (sym kept ∙ none))
+    stays false e later =
+        let kept : filter (is_id p) (o ∷ options) ≡ filter (is_id p) options = rw e refl in
+        rw e (ap (λ l. o ∷ l) (later (sym kept ∙ none)))
 
 -- ---- the walk over a preference
 
--- behind these names the options that they don't name stand in front, and the others behind them
-abbrev pub IsOrdered : List (List ℕ) → List (List ℕ) → List (List ℕ) → Type 0
-IsOrdered names options now = now ≡ filter (λ o. not (is_named names o)) options ++ preferred names options
+-- the options whose names are all behind stand at the end, as the preference orders them; the others keep their order
+pub record IsOrdered (names options left now : List (List ℕ)) : Type 0 where
+  pub settled : List (List ℕ)
+  pub ordered : preferred names options ≡ settled ++ preferred left options
+  pub parts : now ≡ filter (λ o. is_named left o || not (is_named names o)) options ++ settled
+  pub behind : (p : List ℕ) → is_named left p ≡ true → filter (is_id p) settled ≡ []
+  pub among : (p : List ℕ) → is_named left p ≡ true → is_named names p ≡ true
 
-pub ordered_none : (options : List (List ℕ)) → IsOrdered [] options options
-ordered_none options = sym (append-nil (filter (λ o. true) options) ∙ all_pass options)
+or_true : (a : Bool) → a || true ≡ true
+or_true true = refl
+or_true false = refl
+
+pub ordered_none : (names options : List (List ℕ)) → IsOrdered names options names options
+ordered_none names options =
+    record {
+      settled = [];
+      ordered = refl;
+      parts = sym (append-nil (filter (λ o. is_named names o || not (is_named names o)) options) ∙ all_pass options);
+      behind = λ p h. refl;
+      among = λ p h. h;
+    }
   where
-    all_pass : (xs : List (List ℕ)) → filter (λ o. true) xs ≡ xs
+    either : (b : Bool) → b || not b ≡ true
+    either true = refl
+    either false = refl
+
+    all_pass : (xs : List (List ℕ)) → filter (λ o. is_named names o || not (is_named names o)) xs ≡ xs
     all_pass [] = refl
-    all_pass (x ∷ xs) = ap (λ l. x ∷ l) (all_pass xs)
+    all_pass (x ∷ xs) = rw (either (is_named names x)) (ap (λ l. x ∷ l) (all_pass xs))
 
-pub ordered_more : (names options now new : List (List ℕ)) (i : ℕ) (p : List ℕ) → IsOrdered (take i names) options now → i < length names → p ≡ get_or names i p → new ≡ filter (λ o. not (is_id p o)) now ++ filter (is_id p) now → IsOrdered (take (i + 1) names) options new
-ordered_more names options now new i p o within is made =
-    let seen : List (List ℕ) = take i names in
-    made ∙ rw (o, take_more names i p within, sym is) (step seen p)
+-- a name that comes again: its options wait for its last place
+pub ordered_again : (names options left now : List (List ℕ)) (q : List ℕ) → IsOrdered names options (q ∷ left) now → is_named left q ≡ true → IsOrdered names options left now
+ordered_again names options left now q m again =
+    record {
+      settled = m.settled;
+      ordered = m.ordered ∙ ap (λ l. m.settled ++ l) (rw again refl);
+      parts = m.parts ∙ ap (λ l. l ++ m.settled) (filter_agree (λ o. is_named (q ∷ left) o || not (is_named names o)) (λ o. is_named left o || not (is_named names o)) (λ o. same o (is_id o q) refl) options);
+      behind = λ p h. m.behind p (named p h);
+      among = λ p h. m.among p (named p h);
+    }
   where
-    step : (seen : List (List ℕ)) (p : List ℕ) → filter (λ o. not (is_id p o)) (filter (λ o. not (is_named seen o)) options ++ preferred seen options) ++ filter (is_id p) (filter (λ o. not (is_named seen o)) options ++ preferred seen options) ≡ filter (λ o. not (is_named (seen ++ p ∷ []) o)) options ++ preferred (seen ++ p ∷ []) options
-    step seen p =
-        ap (λ l. l ++ filter (is_id p) (filter (λ o. not (is_named seen o)) options ++ preferred seen options)) (filter-append (λ o. not (is_id p o)) (filter (λ o. not (is_named seen o)) options) (preferred seen options))
-        ∙ ap (λ l. filter (λ o. not (is_id p o)) (filter (λ o. not (is_named seen o)) options) ++ filter (λ o. not (is_id p o)) (preferred seen options) ++ l) (filter-append (is_id p) (filter (λ o. not (is_named seen o)) options) (preferred seen options) ∙ all_of_id p seen options)
-        ∙ append_assoc (filter (λ o. not (is_id p o)) (filter (λ o. not (is_named seen o)) options)) (filter (λ o. not (is_id p o)) (preferred seen options)) (filter (is_id p) options)
-        ∙ ap (λ l. l ++ (filter (λ o. not (is_id p o)) (preferred seen options) ++ filter (is_id p) options)) (sym (unnamed_more p seen options))
-        ∙ ap (λ l. filter (λ o. not (is_named (seen ++ p ∷ []) o)) options ++ l) (sym (preferred_more p seen options))
+    named : (p : List ℕ) → is_named left p ≡ true → is_named (q ∷ left) p ≡ true
+    named p h = rw h (or_true (is_id p q))
 
-pub ordered_all : (names options now new : List (List ℕ)) (i k : ℕ) → IsOrdered (take i names) options now → length names ≤ i → length (filter (λ o. not (is_named names o)) options) ≡ k → new ≡ drop k now ++ take k now → new ≡ preferred names options ++ filter (λ o. not (is_named names o)) options
-ordered_all names options now new i k o whole long made = made ∙ turned (filter (λ o. not (is_named names o)) options) (preferred names options) k now (o ∙ ap (λ l. filter (λ o. not (is_named l o)) options ++ preferred l options) (take_whole names i whole)) long
+    same : (o : List ℕ) (b : Bool) → is_id o q ≡ b → is_named (q ∷ left) o || not (is_named names o) ≡ is_named left o || not (is_named names o)
+    same o true e = rw (e, ap (λ t. is_named left t) (sym (id_is o q e)) ∙ again) refl
+    same o false e = rw e refl
+
+-- the last place of a name: its options go behind the others
+pub ordered_last : (names options left now new : List (List ℕ)) (q : List ℕ) → IsOrdered names options (q ∷ left) now → is_named left q ≡ false → new ≡ filter (λ o. not (is_id q o)) now ++ filter (is_id q) now → IsOrdered names options left new
+ordered_last names options left now new q m last made =
+    let settled = m.settled in
+    let named : is_named (q ∷ left) q ≡ true = rw (id_same q) refl in
+    let none : filter (is_id q) settled ≡ [] = m.behind q named in
+    let waiting : List (List ℕ) = filter (λ o. is_named (q ∷ left) o || not (is_named names o)) options in
+    let stay : filter (λ o. not (is_id q o)) waiting ≡ filter (λ o. is_named left o || not (is_named names o)) options =
+    filter_twice (λ o. not (is_id q o)) (λ o. is_named (q ∷ left) o || not (is_named names o)) options
+    ∙ filter_agree (λ o. (is_named (q ∷ left) o || not (is_named names o)) && not (is_id q o)) (λ o. is_named left o || not (is_named names o)) (λ o. stays o (is_id q o) refl (m.among q named)) options in
+    let go : filter (is_id q) waiting ≡ filter (is_id q) options =
+    filter_twice (is_id q) (λ o. is_named (q ∷ left) o || not (is_named names o)) options
+    ∙ filter_agree (λ o. (is_named (q ∷ left) o || not (is_named names o)) && is_id q o) (is_id q) (λ o. goes o (is_id q o) refl) options in
+    record {
+      settled = settled ++ filter (is_id q) options;
+      ordered = m.ordered ∙ ap (λ l. settled ++ l) (rw last refl) ∙ sym (append_assoc settled (filter (is_id q) options) (preferred left options));
+      parts = made ∙ ap (λ l. filter (λ o. not (is_id q o)) l ++ filter (is_id q) l) m.parts
+          ∙ ap (λ l. l ++ filter (is_id q) (waiting ++ settled)) (filter-append (λ o. not (is_id q o)) waiting settled ∙ ap (λ l. l ++ filter (λ o. not (is_id q o)) settled) stay ∙ ap (λ l. filter (λ o. is_named left o || not (is_named names o)) options ++ l) (without_none q settled none))
+          ∙ ap (λ l. (filter (λ o. is_named left o || not (is_named names o)) options ++ settled) ++ l) (filter-append (is_id q) waiting settled ∙ ap (λ l. l ++ filter (is_id q) settled) go ∙ ap (λ l. filter (is_id q) options ++ l) none ∙ append-nil (filter (is_id q) options))
+          ∙ append_assoc (filter (λ o. is_named left o || not (is_named names o)) options) settled (filter (is_id q) options);
+      behind = λ p h. filter-append (is_id p) settled (filter (is_id q) options) ∙ ap (λ l. l ++ filter (is_id p) (filter (is_id q) options)) (m.behind p (among p h)) ∙ other_id p q options (differ p (is_id q p) refl h);
+      among = λ p h. m.among p (among p h);
+    }
   where
-    take_whole : {X : Type 0} (xs : List X) (i : ℕ) → length xs ≤ i → take i xs ≡ xs
-    take_whole xs i h = grind (arith, common_steps)
+    among : (p : List ℕ) → is_named left p ≡ true → is_named (q ∷ left) p ≡ true
+    among p h = rw h (or_true (is_id p q))
 
+    differ : (p : List ℕ) (b : Bool) → is_id q p ≡ b → is_named left p ≡ true → is_id q p ≡ false
+    differ p true e h = absurd (clash (sym last ∙ ap (λ t. is_named left t) (sym (id_is q p e)) ∙ h))
+    differ p false e h = e
+
+    stays : (o : List ℕ) (b : Bool) → is_id q o ≡ b → is_named names q ≡ true → (is_named (q ∷ left) o || not (is_named names o)) && not (is_id q o) ≡ is_named left o || not (is_named names o)
+    stays o true e n = rw (id_is q o e, last, n, id_same q) refl
+    stays o false e n = rw (e, sym (id_turned q o) ∙ e) (and_true (is_named left o || not (is_named names o)))
+
+    goes : (o : List ℕ) (b : Bool) → is_id q o ≡ b → (is_named (q ∷ left) o || not (is_named names o)) && is_id q o ≡ is_id q o
+    goes o true e = rw (e, sym (id_turned q o) ∙ e) refl
+    goes o false e = rw e (and_false (is_named (q ∷ left) o || not (is_named names o)))
+
+-- a slice up to the end
+pub all_left : {X : Type 0} (xs : List X) (n : ℕ) → drop n xs ≡ take (length xs - n) (drop n xs)
+all_left xs n = sym (ap (λ k. take k (drop n xs)) (sym (length-drop n xs)) ∙ take-length (drop n xs))
+
+-- one name more
+pub ordered_more_again : (names options now : List (List ℕ)) (i : ℕ) (p : List ℕ) → IsOrdered names options (drop i names) now → i < length names → p ≡ get_or names i p → is_named (drop (i + 1) names) p ≡ true → IsOrdered names options (drop (i + 1) names) now
+ordered_more_again names options now i p m within is again = ordered_again names options (drop (i + 1) names) now p (left m) again
+  where
+    left : IsOrdered names options (drop i names) now → IsOrdered names options (p ∷ drop (i + 1) names) now
+    left m = rw (sym (drop_more names i p within ∙ ap (λ t. t ∷ drop (i + 1) names) (sym is))) m
+
+pub ordered_more_last : (names options now new : List (List ℕ)) (i : ℕ) (p : List ℕ) → IsOrdered names options (drop i names) now → i < length names → p ≡ get_or names i p → is_named (drop (i + 1) names) p ≡ false → new ≡ filter (λ o. not (is_id p o)) now ++ filter (is_id p) now → IsOrdered names options (drop (i + 1) names) new
+ordered_more_last names options now new i p m within is last made = ordered_last names options (drop (i + 1) names) now new p (left m) last made
+  where
+    left : IsOrdered names options (drop i names) now → IsOrdered names options (p ∷ drop (i + 1) names) now
+    left m = rw (sym (drop_more names i p within ∙ ap (λ t. t ∷ drop (i + 1) names) (sym is))) m
+
+-- no name is left
+pub ordered_through : (names options now : List (List ℕ)) → IsOrdered names options [] now → now ≡ filter (λ o. not (is_named names o)) options ++ preferred names options
+ordered_through names options now m = m.parts ∙ ap (λ l. filter (λ o. not (is_named names o)) options ++ l) (sym (m.ordered ∙ append-nil m.settled))
+
+pub ordered_all : (names options now new : List (List ℕ)) (i k : ℕ) → IsOrdered names options (drop i names) now → length names ≤ i → length (filter (λ o. not (is_named names o)) options) ≡ k → new ≡ drop k now ++ take k now → new ≡ preferred names options ++ filter (λ o. not (is_named names o)) options
+ordered_all names options now new i k m whole long made = made ∙ turned (filter (λ o. not (is_named names o)) options) (preferred names options) k now (ordered_through names options now (rw (sym (drop_of_length-le names whole)) m)) long
+  where
     turned : {X : Type 0} (a b : List X) (k : ℕ) (now : List X) → now ≡ a ++ b → length a ≡ k → drop k now ++ take k now ≡ b ++ a
     turned a b k now e h = rw (e, sym h, drop-append_seam a b, take-append_seam a b) refl
 
-pub ordered_room : (names options now : List (List ℕ)) (i k : ℕ) → IsOrdered (take i names) options now → length names ≤ i → length (filter (λ o. not (is_named names o)) options) ≡ k → k ≤ length now
-ordered_room names options now i k o whole long = room (filter (λ o. not (is_named names o)) options) (preferred names options) now k (o ∙ ap (λ l. filter (λ o. not (is_named l o)) options ++ preferred l options) (take_whole names i whole)) long
+pub ordered_room : (names options now : List (List ℕ)) (i k : ℕ) → IsOrdered names options (drop i names) now → length names ≤ i → length (filter (λ o. not (is_named names o)) options) ≡ k → k ≤ length now
+ordered_room names options now i k m whole long = room (filter (λ o. not (is_named names o)) options) (preferred names options) now k (ordered_through names options now (rw (sym (drop_of_length-le names whole)) m)) long
   where
-    take_whole : {X : Type 0} (xs : List X) (i : ℕ) → length xs ≤ i → take i xs ≡ xs
-    take_whole xs i h = grind (arith, common_steps)
-
     room : {X : Type 0} (a b now : List X) (k : ℕ) → now ≡ a ++ b → length a ≡ k → k ≤ length now
     room a b now k e h = rw e (grind (arith, common_steps))

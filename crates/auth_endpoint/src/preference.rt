@@ -49,8 +49,11 @@ pub fn reprioritize(
     let names = names.as_slice();
     let mut options = options.into_vec(alloc);
     let unnamed = count_unnamed(options.as_slice(), names);
-    for name in names {
-        move_back(&mut options, name.as_str());
+    for (place, name) in names.iter().enumerate() {
+        // A name that comes again waits for its last place.
+        if !is_named(&names[place + 1..], name.as_str()) {
+            move_back(&mut options, name.as_str());
+        }
     }
     options.rotate_left(unnamed);
     List::from_vec(options)

@@ -1,17 +1,10 @@
 //! Orders by a preference, and choices among options.
 
+use crate::requests::texts;
 use anyhow::Result as Told;
 use auth_endpoint::{NoMatchingAuthSchemeError, Place, choose, reprioritize};
 use smithy_types::{Endpoint, List, OutOfMemory, Text};
 use std::alloc::Global;
-
-fn ids(alloc: Global, names: &[&'static str]) -> Result<List<Text>, OutOfMemory> {
-    let mut list = List::new();
-    for name in names {
-        list.push(alloc, Text::from_static(*name))?;
-    }
-    Ok(list)
-}
 
 // The options in their order by the preference, each behind a blank.
 fn ordered(
@@ -19,10 +12,10 @@ fn ordered(
     options: &[&'static str],
     preference: Option<&[&'static str]>,
 ) -> Result<String, OutOfMemory> {
-    let options = ids(alloc, options)?;
+    let options = texts(alloc, options)?;
     let order = match preference {
         Some(names) => {
-            let names = ids(alloc, names)?;
+            let names = texts(alloc, names)?;
             reprioritize(alloc, options, Some(&names))
         }
         None => reprioritize(alloc, options, None),
@@ -90,15 +83,15 @@ fn choice(
     resolvers: &[&'static str],
     listed: Option<&[&'static str]>,
 ) -> Result<Place, NoMatchingAuthSchemeError> {
-    let options = ids(alloc, &["a", "b", "noAuth"])?;
-    let schemes = ids(alloc, schemes)?;
-    let resolvers = ids(alloc, resolvers)?;
+    let options = texts(alloc, &["a", "b", "noAuth"])?;
+    let schemes = texts(alloc, schemes)?;
+    let resolvers = texts(alloc, resolvers)?;
     match listed {
         Some(listed) => {
             let endpoint = Endpoint {
                 url: Text::from_static("http://h"),
                 headers: List::new(),
-                schemes: Some(ids(alloc, listed)?),
+                schemes: Some(texts(alloc, listed)?),
             };
             choose(alloc, &options, &schemes, &resolvers, Some(&endpoint))
         }
@@ -108,7 +101,7 @@ fn choice(
 
 // How many refused options are told of where nine have no scheme, and whether there are more.
 fn nine_without_schemes(alloc: Global) -> Result<(usize, bool), OutOfMemory> {
-    let options = ids(alloc, &["a", "b", "c", "d", "e", "f", "g", "h", "i"])?;
+    let options = texts(alloc, &["a", "b", "c", "d", "e", "f", "g", "h", "i"])?;
     match choose(alloc, &options, &List::new(), &options, None) {
         Err(NoMatchingAuthSchemeError::Explored(explored)) => {
             Ok((explored.items.len(), explored.truncated))

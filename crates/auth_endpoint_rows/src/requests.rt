@@ -11,7 +11,8 @@ use smithy_types::{
 };
 use std::alloc::Global;
 
-fn texts(alloc: Global, values: &[&'static str]) -> Result<List<Text>, OutOfMemory> {
+/// These texts, as a list.
+pub fn texts(alloc: Global, values: &[&'static str]) -> Result<List<Text>, OutOfMemory> {
     let mut list = List::new();
     for value in values {
         list.push(alloc, Text::from_static(*value))?;

@@ -8,4 +8,4 @@ mod watching;
 
 pub use client::{BakeryBuilder, BakeryClient, BakeryOperation, invoke, retry, taken_apart};
 pub use signing::{Signing, bearer_id, signing_by};
-pub use watching::{Ending, GetOrder, SECOND, Watch, wait};
+pub use watching::{Ending, GetOrder, Watch, wait};

@@ -15,10 +15,8 @@ use retry_quota::Quota;
 use scripted::ScriptedOutside;
 use smithy_types::{AcceptorState, Fault, FaultKind, OutOfMemory, SdkError, Text, Timers};
 use std::alloc::Global;
+use waiters::backoff::SECOND;
 use waiters::{FinalPoll, WaiterError, WaiterOrchestrator, WaiterTimers};
-
-/// A second, in nanoseconds.
-pub const SECOND: u64 = 1_000_000_000;
 
 /// The most questions that one poll asks.
 const FUEL_OF_A_POLL: u64 = 200;
@@ -203,8 +201,8 @@ pub type Ending = Result<
 
 /// Asks for the order until it is ready, with 2 to 120 seconds between two polls, and at most 300
 /// seconds in all. The fuel bounds the polls and the asks of sleeps, and is spent where the wait is
-/// `Unfinished`. A wait that succeeds ends with an order that is ready; each other ending is that of
-/// its walk of polls and delays. Each poll is one invocation of the operation, and what the waiter
+/// `Unfinished`. A wait that succeeds ends with an order that is ready; each other ending is that
+/// of its walk of polls and delays. Each poll is one invocation of the operation, and what the waiter
 /// asks of clock and sleeps is asked of the client's outside.
 pub fn wait<Q: Quota + Drop, C: ClassifyRetry, I: TakeOffer>(
     watch: &mut Watch<Q, C, I>,

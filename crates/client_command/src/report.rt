@@ -9,11 +9,11 @@ ghost use Rattle.client_command.specs.Report.{Counts, Reports, made_data};
 
 use crate::tally::{Tally, count_runs};
 use client_runs::ClientSet;
+use client_runs::print::sums_of;
 use client_scripts::InvocationRecord;
 use json_forms::{Json, Row};
 use retry_parts::TakeOffer;
 use retry_policy::ClassifyRetry;
-use retry_quota::Quota;
 use scripted_client::ClientQuota;
 use shell::status::PrintStatus;
 use smithy_types::{List, OutOfMemory, Sums};
@@ -25,8 +25,13 @@ use value_json::note::print_optional_sums;
 pub enum Report {
     /// All that they asked, and what is left behind them.
     Print,
-    /// How many came out well. The script was made of so many invocations and this seed.
-    Counts { count: u64, seed: u64 },
+    /// How many came out well, of a script that was made.
+    Counts {
+        /// Of so many invocations.
+        count: u64,
+        /// Of this seed.
+        seed: u64,
+    },
 }
 
 /// Makes these invocations in their order. Answers what is told of them, and what it comes to.
@@ -111,7 +116,7 @@ fn made_line(
         line (made_data count seed tally (option_map sums_of (slice_get quota.now.books 0)))) }
 {
     let mut text = Vec::new(alloc);
-    print_made(alloc, count, seed, tally, first_sums(quota))?.write_line(alloc, &mut text)?;
+    print_made(alloc, count, seed, tally, sums_of(quota, 0))?.write_line(alloc, &mut text)?;
     Ok(text)
 }
 
@@ -135,11 +140,4 @@ fn print_made(
     row.push(Json::number(tally.calls))?;
     row.push(print_optional_sums(alloc, sums)?)?;
     Ok(row.finish())
-}
-
-// The sums of the first bucket.
-fn first_sums(quota: &ClientQuota) -> Option<Sums>
-    ensures { result ≡ option_map sums_of (slice_get quota.now.books 0) }
-{
-    if quota.has(0) { quota.sums(0) } else { None }
 }

@@ -4,6 +4,7 @@ ghost use Rattle.client_runs.specs.Means.{ServedBy};
 ghost use Rattle.client_runs.specs.Invoking.{Invoked, head_of};
 
 use client_scripts::InvocationRecord;
+use client_service::{ERROR_KIND, OUTPUT_KIND};
 use retry_parts::TakeOffer;
 use retry_policy::ClassifyRetry;
 use run_grammar::Entry;
@@ -14,12 +15,6 @@ use smithy_types::{List, OutOfMemory, Payload, StopPoint};
 use std::alloc::Global;
 use std::mem;
 use world_run::run_over;
-
-/// The kind of a payload that is an output of the service.
-const OUTPUT_KIND: u64 = 1;
-
-/// The kind of a payload that is an error of the service.
-const ERROR_KIND: u64 = 2;
 
 /// How many entries a log has room for at first: those of a run of three attempts.
 const LOG_ROOM: usize = 96;
@@ -76,7 +71,7 @@ pub fn head_of(input: Payload, fuel: u64, stop: StopPoint) -> RunHead
         input,
         fuel,
         stop,
-        output_kind: OUTPUT_KIND,
-        error_kind: ERROR_KIND,
+        output_kind: OUTPUT_KIND as u64,
+        error_kind: ERROR_KIND as u64,
     }
 }

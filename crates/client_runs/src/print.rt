@@ -78,7 +78,7 @@ pub fn print_buckets(
     let mut number = 0;
     while let Some(sums) = sums_of(quota, number) {
         write_bucket(alloc, number, sums, out)?;
-        number = next(number)?;
+        number = next_bucket(number)?;
     }
     Ok(())
 }
@@ -95,8 +95,8 @@ fn write_bucket(
     print_bucket(alloc, number, sums)?.write_line(alloc, out)
 }
 
-// The sums of a bucket, where it is there.
-fn sums_of(quota: &ClientQuota, number: u32) -> Option<Sums>
+/// The sums of a bucket, where it is there.
+pub fn sums_of(quota: &ClientQuota, number: u32) -> Option<Sums>
     ensures { result ≡ option_map sums_of (slice_get quota.now.books number) }
 {
     if quota.has(number) {
@@ -106,9 +106,9 @@ fn sums_of(quota: &ClientQuota, number: u32) -> Option<Sums>
     }
 }
 
-// The number behind this one. There is none behind the last of a u32, as no registry has more
+// The number of the bucket behind this one. There is none behind the last of a u32, as no registry has more
 // buckets.
-fn next(number: u32) -> Result<u32, OutOfMemory>
+fn next_bucket(number: u32) -> Result<u32, OutOfMemory>
     ensures { IfOk result (λ n. n ≡ number + 1) }
 {
     match number.checked_add(1) {

@@ -11,6 +11,7 @@ use retry_parts::TakeOffer;
 use retry_policy::ClassifyRetry;
 use run_grammar::Entry;
 use run_print::Ending;
+use run_print::print::next_number;
 use scripted::ScriptedOutside;
 use scripted_client::{ClientQuota, ScriptedClient};
 use shell::status::PrintStatus;
@@ -80,7 +81,7 @@ impl<C: ClassifyRetry, I: TakeOffer> ClientSet<C, I> {
         let mut outcome = PrintStatus::Ok;
         for invocation in invocations.into_vec(alloc) {
             outcome = self.run_one(alloc, number, invocation, out)?;
-            number = next(number)?;
+            number = next_number(number)?;
         }
         Ok(outcome)
     }
@@ -144,16 +145,5 @@ impl<C: ClassifyRetry, I: TakeOffer> ClientSet<C, I> {
             loads = loads.saturating_add(client.world.loads());
         }
         loads
-    }
-}
-
-/// The number of the next invocation. There is none behind the last of a u64, for which no memory
-/// could hold invocations.
-pub fn next(number: u64) -> Result<u64, OutOfMemory>
-    ensures { IfOk result (λ n. n ≡ number + 1) }
-{
-    match number.checked_add(1) {
-        Some(next) => Ok(next),
-        None => Err(OutOfMemory),
     }
 }

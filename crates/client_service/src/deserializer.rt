@@ -9,10 +9,10 @@ use smithy_types::{Fault, FaultKind, HttpResponse, OutOfMemory, Outcome, Payload
 use std::alloc::Global;
 
 /// The kind of an output's payload.
-const OUTPUT: u32 = 1;
+pub const OUTPUT_KIND: u32 = 1;
 
 /// The kind of an error's payload.
-const ERROR: u32 = 2;
+pub const ERROR_KIND: u32 = 2;
 
 /// Makes an output of a response below 400 and of 418, and the service's own error of any other.
 /// The body is the payload. It never streams.
@@ -45,12 +45,15 @@ impl DeserializeResponse for ServiceDeserializer {
         let bytes = body_bytes(&response.body)?;
         if is_output(response.status) {
             return Ok(Outcome::Output(Payload {
-                kind: OUTPUT,
+                kind: OUTPUT_KIND,
                 bytes,
             }));
         }
         Ok(Outcome::Failed(Fault {
-            kind: FaultKind::Operation(Payload { kind: ERROR, bytes }),
+            kind: FaultKind::Operation(Payload {
+                kind: ERROR_KIND,
+                bytes,
+            }),
             text: status_text(alloc, response.status)?,
         }))
     }

@@ -7,7 +7,7 @@ pub mod error;
 pub mod scheme;
 pub mod serializer;
 
-pub use deserializer::ServiceDeserializer;
+pub use deserializer::{ERROR_KIND, OUTPUT_KIND, ServiceDeserializer};
 pub use error::ServiceError;
 pub use scheme::ServiceScheme;
 pub use serializer::ServiceSerializer;

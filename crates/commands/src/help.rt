@@ -25,7 +25,7 @@ Exit statuses:
   3   the input could not be read
   4   the output could not be written
   5   there was no memory
-  6   the input, or a number in it, passes its limit
+  6   the input, or a number in it or in the words, passes its limit
   10  the last answer is an error of the operation
   11  the fuel was used up
   12  the last answer is a payload of another kind

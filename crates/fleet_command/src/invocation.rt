@@ -8,7 +8,6 @@ use crate::gate::Gate;
 use crate::gated::GatedOutside;
 use client_runs::invocation::head_of;
 use client_runs::print::print_invocation;
-use client_runs::set::next;
 use client_scripts::InvocationRecord;
 use client_service::{ServiceDeserializer, ServiceScheme, ServiceSerializer};
 use components::RuntimeComponents;
@@ -19,6 +18,7 @@ use retry_policy::ClassifyRetry;
 use retry_quota::Quota;
 use run_grammar::Entry;
 use run_print::Ending;
+use run_print::print::next_number;
 use scripted::IdentityRecord;
 use shell::status::PrintStatus;
 use smithy_types::{List, OutOfMemory, Shared};
@@ -162,7 +162,7 @@ pub fn run_all<'g, G: Gate, Q: Quota + Drop, C: ClassifyRetry, I: TakeOffer>(
     let mut outcome = None;
     for invocation in invocations.into_vec(alloc) {
         outcome = Some(run_one(alloc, target, world, number, invocation, out)?);
-        number = next(number)?;
+        number = next_number(number)?;
     }
     Ok(outcome)
 }

@@ -8,8 +8,8 @@ use crate::caller::{CallerState, FleetCaller};
 use crate::gate::Gate;
 use crate::work::Told;
 use client_runs::print::print_bucket;
-use client_runs::set::next;
 use json_forms::Json;
+use run_print::print::next_number;
 use shell::status::PrintStatus;
 use smithy_types::{OutOfMemory, Sums};
 use std::alloc::Global;
@@ -89,7 +89,7 @@ pub fn print_callers<'g, G: Gate>(
     let mut came = PrintStatus::Ok;
     for caller in callers {
         came = tell(alloc, number, caller, came, out)?;
-        number = next(number)?;
+        number = next_number(number)?;
     }
     Ok(came)
 }

@@ -7,7 +7,7 @@ use std::sync::atomic::{AtomicBool, Ordering};
 const TURNS: u32 = 200_000_000;
 
 /// Holds the first call of caller 0 until caller 1 comes to its second one, which it does only
-/// behind an answer of its first.
+/// behind an answer of its first. A caller's calls are counted on from run to run.
 #[derive(Drop)]
 pub struct HoldingGate {
     has_come: AtomicBool,

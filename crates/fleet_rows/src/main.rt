@@ -1,5 +1,5 @@
 //! Prints how fleets end and what their callers decide: rows whose prints are the same however
-//! threads take turns, scripts that are refused, and a call that is held at the gate.
+//! threads take turns, scripts that are refused, and calls that are held at the gate.
 #![tactic(auto)]
 
 mod gate;
@@ -12,7 +12,7 @@ use commands::OpenGate;
 use gate::HoldingGate;
 use rows::{ROWS, Row};
 use running::{fleet, print_told};
-use spelling::{TWO_CALLERS, changed, spelled, with_runs};
+use spelling::{RETRY_AND_TWICE, TWO_CALLERS, changed, spelled, with_runs};
 use std::sync::Wait;
 use std::thread::Threads;
 
@@ -23,7 +23,13 @@ fn main(rt: HostRuntime) -> Result<()> {
     for count in [5000, 5001] {
         print_many(rt, &rt, count)?;
     }
-    print_held(rt, &rt)
+    print_held(rt, &rt, "a call that waits for another caller", TWO_CALLERS)?;
+    print_held(
+        rt,
+        &rt,
+        "a call that waits for another caller's next run",
+        RETRY_AND_TWICE,
+    )
 }
 
 // Prints the row's status, and what is told of its callers.
@@ -45,15 +51,18 @@ fn print_many<R: Threads + Wait + Sync>(rt: HostRuntime, threads: &R, count: usi
     Ok(())
 }
 
-// Prints whether the held call went on by itself.
-fn print_held<R: Threads + Wait + Sync>(rt: HostRuntime, threads: &R) -> Result<()> {
+// Prints the status of these callers, whether the held call went on by itself, and what is told of
+// them.
+fn print_held<R: Threads + Wait + Sync>(
+    rt: HostRuntime,
+    threads: &R,
+    name: &str,
+    callers: &str,
+) -> Result<()> {
     let gate = HoldingGate::new();
-    let text = spelled(rt.alloc(), TWO_CALLERS)?;
+    let text = spelled(rt.alloc(), callers)?;
     let (status, sink) = fleet(threads, rt.alloc(), text, &gate)?;
-    println!(rt;
-        "a call that waits for another caller: status {}",
-        status.number()
-    )?;
+    println!(rt; "{name}: status {}", status.number())?;
     println!(rt; "given up: {}", gate.was_given_up())?;
     print_told(rt, sink.bytes.as_slice())
 }

@@ -1,6 +1,6 @@
 //! Scripts of fleets, spelled with words that stand for their parts.
 
-use anyhow::Result;
+use anyhow::{Result, bail};
 use std::alloc::Global;
 
 /// What stands in a text, and what is put in its place.
@@ -13,6 +13,9 @@ pub struct Change {
 
 /// Two callers with a retry each.
 pub const TWO_CALLERS: &str = "CALLER,CALLER";
+
+/// A caller with a retry, and one with two invocations of one attempt each.
+pub const RETRY_AND_TWICE: &str = "CALLER,{\"client\":CLIENT,\"invocations\":[EASY,EASY]}";
 
 // What stands before the callers.
 const FRONT: &str = "{\"bucket\":[500,5,5,10,0,0],\"start\":0,\"words\":[],\"callers\":[";
@@ -36,6 +39,10 @@ const WORDS: &[Change] = &[
         to: "{\"input\":[1,\"hi\"],\"fuel\":1000,\"stop\":\"None\",\"responses\":[BUSY,TEAPOT]}",
     },
     Change {
+        from: "EASY",
+        to: "{\"input\":[1,\"hi\"],\"fuel\":1000,\"stop\":\"None\",\"responses\":[TEAPOT]}",
+    },
+    Change {
         from: "BUSY",
         to: "[0,503,[],[],false,null]",
     },
@@ -54,9 +61,12 @@ const WORDS: &[Change] = &[
     },
 ];
 
-/// The text with each change made, one after another.
+/// The text with each change made, one after another. What is changed must stand there.
 pub fn changed(alloc: Global, mut text: String, changes: &[Change]) -> Result<String> {
     for change in changes {
+        if !text.as_str().contains(change.from) {
+            bail!("{} isn't in the script", change.from);
+        }
         text = text.as_str().replace(alloc, change.from, change.to)?;
     }
     Ok(text)
@@ -67,7 +77,10 @@ pub fn spelled(alloc: Global, callers: &str) -> Result<String> {
     let mut text = String::from_str(alloc, FRONT)?;
     text.push_str(callers)?;
     text.push_str("]}")?;
-    changed(alloc, text, WORDS)
+    for word in WORDS {
+        text = text.as_str().replace(alloc, word.from, word.to)?;
+    }
+    Ok(text)
 }
 
 /// A script of two callers, one with so many invocations and one with 5000, all without fuel.

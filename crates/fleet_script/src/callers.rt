@@ -83,7 +83,7 @@ fn caller_items(alloc: Global, items: &[Value]) -> Result<List<CallerRecord>, Re
     Ok(list)
 }
 
-// The callers, of which there is one.
+// The callers, at least one.
 fn only_some(callers: List<CallerRecord>) -> Result<List<CallerRecord>, ReadError>
     ensures { Reads result (some_of callers) }
 {

@@ -1,5 +1,5 @@
 //! A client of weather stations, as its user writes it who copied that of the bakery: a forecast is
-//! asked for, which takes two attempts. The service stands in memory, at the end.
+//! asked for, which takes two attempts. The service stands in memory (`ANSWERS`).
 #![tactic(auto)]
 
 ghost use Rattle.std.specs.Prelude.{◌≡◌};

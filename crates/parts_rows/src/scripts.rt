@@ -72,7 +72,7 @@ fn frames(alloc: Global, pieces: &[Piece]) -> Result<List<Frame>, OutOfMemory> {
     Ok(frames)
 }
 
-// The header that declares a length.
+// The header that declares a length. One that is refused counts as want of memory.
 fn headers(alloc: Global, length: Option<&'static str>) -> Result<Headers, OutOfMemory> {
     let Some(length) = length else {
         return Ok(Headers::new());
@@ -81,9 +81,11 @@ fn headers(alloc: Global, length: Option<&'static str>) -> Result<Headers, OutOf
     let name = HeaderName::from_bytes(alloc, b"content-length");
     let value = HeaderValue::from_bytes(alloc, length.as_bytes());
     if let (Ok(name), Ok(value)) = (name, value) {
-        let _ = map.append(name, value);
+        if map.append(name, value).is_ok() {
+            return Headers::from_map(alloc, map);
+        }
     }
-    Headers::from_map(alloc, map)
+    Err(OutOfMemory)
 }
 
 fn response(alloc: Global, head: Head) -> Result<ScriptedResponse, OutOfMemory> {

@@ -21,7 +21,8 @@ use value_json::http::{print_payload, print_request, print_response};
 pub enum Ending {
     /// With an output of the kind that is looked for.
     Output(Payload),
-    /// At the stop point, with the request that stands there.
+    /// At the stop point, with the request that stands there; None where none stands, to which no
+    /// run comes.
     Stopped(Option<Shared<HttpRequest>>),
     /// With an error of the operation.
     Error(SdkError<Payload>),

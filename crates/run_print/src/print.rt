@@ -98,7 +98,7 @@ pub fn print_entries(alloc: Global, entries: &[Entry], out: &mut Vec<u8>) -> Res
     let mut number = 1;
     for entry in entries {
         write_entry(alloc, number, entry, out)?;
-        number = next(number)?;
+        number = next_number(number)?;
     }
     Ok(())
 }
@@ -152,8 +152,9 @@ fn write_parts(
     Ok(())
 }
 
-// The next number. There is none behind the last of a u64, for which no memory could hold entries.
-fn next(number: u64) -> Result<u64, OutOfMemory>
+/// The number behind this one. There is none behind the last of a u64, for which no memory could
+/// hold entries or invocations.
+pub fn next_number(number: u64) -> Result<u64, OutOfMemory>
     ensures { IfOk result (λ n. n ≡ number + 1) }
 {
     match number.checked_add(1) {

@@ -1,5 +1,5 @@
-//! The answer of a whole run, by the context at its end. It is worked out here, without the
-//! engine.
+//! The answer of a whole run, by the context at its end. It is worked out here; the engine gives
+//! the ending of an outcome, and the failure of a run that has none.
 ghost use Rattle.std.specs.Prelude.{◌≡◌, IfOk};
 ghost use Rattle.run_print.specs.Endings.{error_ending};
 ghost use Rattle.smithy_context.specs.Failures.{sdk_error_of};

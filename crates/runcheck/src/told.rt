@@ -85,7 +85,7 @@ fn told_among(alloc: Global, first: &str, between: &[&str], last: &str) -> Resul
     Ok(Told { head, calls })
 }
 
-// Whether the line is JSON.
+// Refuses a line that isn't JSON.
 fn check_json(alloc: Global, line: &str) -> Result<(), ReadError>
     ensures { Gives (λ _. true) result (option_map (λ d. true) (read line.now)) }
 {

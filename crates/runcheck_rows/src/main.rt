@@ -4,7 +4,7 @@
 mod rows;
 mod texts;
 
-use anyhow::Result;
+use anyhow::{Result, bail};
 use rows::{ROWS, Row};
 use runcheck::{Verdict, check};
 use std::alloc::Global;
@@ -26,10 +26,13 @@ fn said_of(alloc: Global, row: &Row) -> Result<&'static str> {
     }
 }
 
-// The row's text with its changes, one after another.
+// The row's text with its changes, one after another. What is changed must stand there.
 fn changed(alloc: Global, row: &Row) -> Result<String> {
     let mut text = String::from_str(alloc, row.text)?;
     for change in row.changes {
+        if !text.as_str().contains(change.from) {
+            bail!("{} isn't in: {}", change.from, row.name);
+        }
         text = text.as_str().replace(alloc, change.from, change.to)?;
     }
     Ok(text)

@@ -3,6 +3,7 @@ ghost use Rattle.std.specs.Prelude.{◌≡◌, IfOk};
 ghost use Rattle.scripted_fleet.specs.Waiters.{plans_of};
 
 use scripted_timers::ScriptedPoll;
+use scripted_timers::polls::poll_at;
 use smithy_types::{List, OutOfMemory};
 use std::alloc::Global;
 use waiter_fleet::Plan;
@@ -24,8 +25,7 @@ impl ScriptedWaiter {
     pub fn poll_at(&self, number: u32) -> Option<&ScriptedPoll>
         ensures { option_copied result ≡ poll_at self.now.polls number }
     {
-        let polls = self.polls.as_slice();
-        polls.get((number as usize).min(polls.len()).saturating_sub(1))
+        poll_at(&self.polls, number)
     }
 }
 

@@ -8,10 +8,18 @@ use std::marker::Model;
 /// A poll that was answered, or a sleep that was started.
 #[derive(Clone, Copy, Debug, PartialEq, Eq)]
 pub enum Note {
-    /// The poll of this number was answered at this moment.
-    Poll { number: u32, moment: u64 },
-    /// A sleep of so many nanoseconds was started.
-    Sleep { nanos: u64 },
+    /// A poll was answered.
+    Poll {
+        /// The number of the poll, from 1 on.
+        number: u32,
+        /// When it was answered, in nanoseconds.
+        moment: u64,
+    },
+    /// A sleep was started.
+    Sleep {
+        /// How long.
+        nanos: u64,
+    },
 }
 
 /// The notes, the first one first.

@@ -1,11 +1,11 @@
 //! What a script says of polls.
 ghost use Rattle.std.specs.Prelude.{◌≡◌, IfOk};
 ghost use Rattle.std.specs.Option.{option_copied};
-ghost use Rattle.scripted_timers.specs.Polls.{Answers, IsTimeout, nanos_of};
+ghost use Rattle.scripted_timers.specs.Polls.{Answers, IsTimeout, nanos_of, poll_at};
 
 use smithy_types::{
-    AcceptorState, Body, Fault, FaultKind, Headers, HttpResponse, OutOfMemory, Payload, SdkError,
-    Text,
+    AcceptorState, Body, Fault, FaultKind, Headers, HttpResponse, List, OutOfMemory, Payload,
+    SdkError, Text,
 };
 
 /// What a poll comes to.
@@ -37,6 +37,14 @@ pub struct PolledValue {
     pub payload: Payload,
     /// What the acceptors say of it.
     pub state: AcceptorState,
+}
+
+/// The poll of this number, counted from 1: behind the last one that one again.
+pub fn poll_at(polls: &List<ScriptedPoll>, number: u32) -> Option<&ScriptedPoll>
+    ensures { option_copied result ≡ poll_at polls.now number }
+{
+    let polls = polls.as_slice();
+    polls.get((number as usize).min(polls.len()).saturating_sub(1))
 }
 
 /// How long this poll takes, in nanoseconds. Without a poll it takes no time.

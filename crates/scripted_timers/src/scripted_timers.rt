@@ -2,7 +2,7 @@
 ghost use Rattle.std.specs.Prelude.{◌≡◌};
 
 use crate::notes::{Note, Notes};
-use crate::polls::{ScriptedPoll, nanos_of};
+use crate::polls::{ScriptedPoll, nanos_of, poll_at};
 use scripted::wake::{earliest, sooner_of, woken};
 use scripted::{Sleeps, Words};
 use smithy_types::{List, OutOfMemory, Timers};
@@ -12,15 +12,15 @@ use waiters::WaiterTimers;
 /// Timers whose clock only `park` moves.
 #[derive(Drop)]
 pub struct ScriptedTimers {
-    /// The present moment.
+    /// The present moment, in nanoseconds.
     pub moment: u64,
     /// The words that are still to be drawn.
     pub words: Words,
     /// The polls of the operation, the first one first.
     pub polls: List<ScriptedPoll>,
-    /// When the poll that was asked and not answered is due.
+    /// When the poll that was asked and not answered is due, in nanoseconds.
     pub poll_due: Option<u64>,
-    /// The sleeps that are open: those that were not over yet when they were asked.
+    /// The sleeps that are open: started, and neither found over nor given up.
     pub sleeps: Sleeps,
     /// The polls that were answered and the sleeps that were started.
     pub notes: Notes,
@@ -65,8 +65,7 @@ impl ScriptedTimers {
     pub fn poll_at(&self, number: u32) -> Option<&ScriptedPoll>
         ensures { option_copied result ≡ poll_at self.now.polls number }
     {
-        let polls = self.polls.as_slice();
-        polls.get((number as usize).min(polls.len()).saturating_sub(1))
+        poll_at(&self.polls, number)
     }
 
     // When the poll of this number is due: at the moment of its first ask and its nanoseconds.

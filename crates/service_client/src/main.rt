@@ -1,22 +1,21 @@
 //! A client of a bakery, as its user writes it: an order is placed, which takes three attempts, and
-//! then a waiter asks for it until it is ready. The service stands in memory, at the end.
+//! then a waiter asks for it until it is ready. The service stands in memory (`ANSWERS`).
 #![tactic(auto)]
 
-use anyhow::{Result, bail};
+use anyhow::Result;
 use bakery_client::{
-    BakeryBuilder, BakeryClient, BakeryOperation, Ending, GetOrder, SECOND, Watch, bearer_id,
-    invoke, retry, signing_by, taken_apart, wait,
+    BakeryBuilder, BakeryClient, BakeryOperation, Ending, GetOrder, Watch, bearer_id, invoke,
+    retry, signing_by, taken_apart, wait,
 };
 use bakery_model::{
-    BakeryError, ERROR, GET_ORDER_OUTPUT, GetOrderInput, GetOrderOutput, PLACE_ORDER_OUTPUT,
-    PlaceOrderInput, PlaceOrderOutput,
+    ERROR, GET_ORDER_OUTPUT, GetOrderInput, GetOrderOutput, PLACE_ORDER_OUTPUT, PlaceOrderInput,
+    PlaceOrderOutput,
 };
 use bakery_protocol::{
     BakeryDeserializer, BakerySerializer, ClientNameInterceptor, TooEarlyClassifier,
 };
 use http_schemes::BearerAuthScheme;
 use operation_builder::{OperationBuilder, added, refusal_of};
-use orchestrate::InvokeError;
 use outside::Outside;
 use rate_limit::ClientRateLimiter;
 use retry_parts::TakeOffer;
@@ -29,7 +28,9 @@ use scripted::ScriptedOutside;
 use scripted_service::{Row, service};
 use smithy_types::{OutOfMemory, SdkError, StopPoint, Text, TimeoutConfig, Timers, Wire};
 use std::alloc::Global;
+use std::fmt::Display;
 use waiters::WaiterError;
+use waiters::backoff::SECOND;
 
 /// The service's name, by which its retries share a bucket.
 const SERVICE: &str = "Bakery";
@@ -174,23 +175,11 @@ fn order<X: Outside + Drop, Q: Quota + Drop, C: ClassifyRetry, I: TakeOffer>(
     operation: &PlaceOrder,
     client: &mut BakeryClient<X, Q, C, I>,
 ) -> Result<Text> {
-    let output = placed(rt.alloc(), operation, client)?;
+    let output = invoke(rt.alloc(), operation, client, input(), FUEL)?;
     print_log(rt, client.entries().as_slice(), &output)?;
     println!(rt; "Ordered: {}", output.order)?;
     print_bucket(rt, &client.parts.quota)?;
     Ok(output.order)
-}
-
-// Invokes the operation once.
-fn placed<X: Outside + Drop, Q: Quota + Drop, C: ClassifyRetry, I: TakeOffer>(
-    alloc: Global,
-    operation: &PlaceOrder,
-    client: &mut BakeryClient<X, Q, C, I>,
-) -> Result<PlaceOrderOutput> {
-    match invoke(alloc, operation, client, input(), FUEL) {
-        Ok(output) => Ok(output),
-        Err(error) => bail!("{}", cause(&error)),
-    }
 }
 
 // What is ordered.
@@ -254,11 +243,14 @@ fn fetch<Q: Quota + Drop, C: ClassifyRetry, I: TakeOffer>(
     tell(rt, watch.order.as_str(), watch.polls, seconds, &ending)
 }
 
-// Tells how the wait ended.
+// Tells how the wait ended. A poll that had no answer says why in its fault.
 fn tell(rt: &HostRuntime, order: &str, polls: u32, seconds: u64, ending: &Ending) -> Result<()> {
     match ending {
         Ok(_) => tell_ready(rt, order, polls, seconds),
-        Err(error) => tell_refused(rt, order, polls, reason(error)),
+        Err(WaiterError::OperationFailed(SdkError::ConstructionFailure(fault))) => {
+            tell_refused(rt, order, polls, &fault.text)
+        }
+        Err(error) => tell_refused(rt, order, polls, error),
     }
 }
 
@@ -269,47 +261,7 @@ fn tell_ready(rt: &HostRuntime, order: &str, polls: u32, seconds: u64) -> Result
 }
 
 // Tells of an order that isn't.
-fn tell_refused(rt: &HostRuntime, order: &str, polls: u32, reason: &str) -> Result<()> {
+fn tell_refused<D: Display>(rt: &HostRuntime, order: &str, polls: u32, reason: &D) -> Result<()> {
     println!(rt; "{order} isn't ready after {polls} polls: {reason}")?;
     Ok(())
-}
-
-// Why an invocation has no output.
-fn cause(error: &InvokeError<BakeryError>) -> &'static str {
-    match error {
-        InvokeError::Sdk(error) => failure(error),
-        InvokeError::Unfinished => "the fuel is used up",
-        InvokeError::WrongType(_) => "the answer is of another kind",
-        InvokeError::OutOfMemory => "there is no memory",
-    }
-}
-
-// Why a wait has no order.
-fn reason(error: &WaiterError<GetOrderOutput, BakeryError>) -> &'static str {
-    match error {
-        WaiterError::OperationFailed(error) => failure(error),
-        WaiterError::FailureState(_) => "the bakery refuses it",
-        WaiterError::ExceededMaxWait { .. } => "the longest wait is over",
-        WaiterError::Unfinished => "the fuel is used up",
-        WaiterError::OutOfMemory => "there is no memory",
-    }
-}
-
-// Why an operation failed.
-fn failure(error: &SdkError<BakeryError>) -> &'static str {
-    match error {
-        SdkError::ConstructionFailure(_) => "the request can't be built",
-        SdkError::TimeoutError(_) => "a deadline is over",
-        SdkError::DispatchFailure(_) => "no response came",
-        SdkError::ResponseError(_, _) => "the response can't be read",
-        SdkError::ServiceError(error, _) => service_error(*error),
-    }
-}
-
-// What the bakery says.
-fn service_error(error: BakeryError) -> &'static str {
-    match error {
-        BakeryError::OvenBusy => "the oven is busy",
-        BakeryError::NoSuchOrder => "there is no such order",
-    }
 }

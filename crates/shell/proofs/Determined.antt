@@ -53,7 +53,7 @@ long (Some x) bytes e h = subst (λ (b : List ℕ). 16777216 < length b) (some_e
 
 pub seen : {K : Type 0} (view : K → SinkView) (says : List ℕ → Said → Type 0) (bytes : List ℕ) (status : Ended) (before after : SourceView) (old new : K) → before.left ≡ Some bytes → is_answer status ≡ true →
     Served view says status before after old new → Seen view says bytes status old new
-seen view says bytes (Shell shells.LongInput) before after old new e h (inl (u, k)) = inl (refl, long before.left bytes e u, k)
+seen view says bytes (Shell shells.LongInput) before after old new e h (inl ((t, u), k)) = inl (refl, long before.left bytes e u, k)
 seen view says bytes (Shell shells.BadWords) before after old new e h (inl (u, k)) = absurd u
 seen view says bytes (Shell shells.ReadFault) before after old new e h (inl (u, k)) = absurd (cc)
 seen view says bytes (Shell shells.WriteFault) before after old new e h (inl (u, k)) = absurd u

@@ -9,11 +9,15 @@ use Rattle.shell.specs.declared.status.ShellStatus.TheVariants as shells
 abbrev pub IsRead : SourceView → List ℕ → SourceView → Type 0
 IsRead before bytes after = (length bytes ≤ 16777216) × Consumes before.left after.left bytes × IsAtEnd after.left
 
--- The input was not read to its end, and this is why.
+-- A front of what was left was taken.
+abbrev pub Took : SourceView → SourceView → Type 0
+Took before after = (front : List ℕ) × Consumes before.left after.left front
+
+-- The input was not read to its end, and this is why; a front of it was taken.
 abbrev pub Unread : ShellStatus → SourceView → SourceView → Type 0
-Unread shells.ReadFault before after = Rose before.faults after.faults
-Unread shells.LongInput before after = IfSome before.left (λ bytes. 16777216 < length bytes)
-Unread shells.OutOfMemory before after = Unit {0}
+Unread shells.ReadFault before after = Took before after × Rose before.faults after.faults
+Unread shells.LongInput before after = Took before after × IfSome before.left (λ bytes. 16777216 < length bytes)
+Unread shells.OutOfMemory before after = Took before after
 Unread shells.BadWords before after = ⊥
 Unread shells.WriteFault before after = ⊥
 

@@ -1,5 +1,8 @@
 //! A source over a reader and a sink over a writer of the standard library.
-ghost use Rattle.std.specs.Prelude.{◌≡◌};
+ghost use Rattle.std.specs.Prelude.{◌≡◌, ◌<◌, false, length};
+ghost use Rattle.shell.specs.Memory.{faults_read, faults_written};
+ghost use Rattle.shell.specs.Sink.{Writes};
+ghost use Rattle.shell.specs.Source.{Reads};
 
 use crate::sink::{Sink, Wrote};
 use crate::source::{Got, Source};
@@ -26,7 +29,13 @@ impl<R> StdSource<R> {
 impl<R: Read> Source for StdSource<R> {
     ghost view = { λ s. record { left = R.remaining s.reader; faults = s.errors } };
 
-    fn read(&mut self, buffer: &mut [u8]) -> Got {
+    fn read(&mut self, buffer: &mut [u8]) -> Got
+        requires { 0 < length buffer.old }
+        ensures reads { Reads
+            (record { left = R.remaining self.old.reader; faults = self.old.errors }) result
+            buffer.new (record { left = R.remaining self.new.reader; faults = self.new.errors }) }
+        ensures errors { self.new.errors ≡ faults_read self.old.errors result }
+    {
         match self.reader.read(buffer) {
             Ok(0) => Got::End,
             Ok(count) => Got::Bytes(count),
@@ -66,7 +75,14 @@ impl<W: Write> Sink for StdSink<W> {
       faults = s.errors;
     } };
 
-    fn write(&mut self, piece: &[u8]) -> Wrote {
+    fn write(&mut self, piece: &[u8]) -> Wrote
+        requires { 0 < length piece.now }
+        ensures writes { Writes
+            (record { written = W.contents self.old.writer; is_lost = false; faults = self.old.errors })
+            result piece.now
+            (record { written = W.contents self.new.writer; is_lost = false; faults = self.new.errors }) }
+        ensures errors { self.new.errors ≡ faults_written self.old.errors result }
+    {
         match self.writer.write(piece) {
             Ok(0) | Err(_) => {
                 self.errors = self.errors.saturating_add(1);

@@ -19,7 +19,7 @@ pub enum Status {
     WriteFault,
     /// An allocation was refused.
     OutOfMemory,
-    /// The input, or a number in it, passes its limit.
+    /// The input, or a number in it or in the words, passes its limit.
     TooLarge,
     /// The command isn't built yet.
     NotBuilt,

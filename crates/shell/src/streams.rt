@@ -4,7 +4,7 @@ ghost use Rattle.std.specs.Prelude.{vec_len, IfOk, IfErr, OnOk, OnErr};
 ghost use Rattle.std.specs.Io.KnownBytes.{Consumes, IsAtEnd};
 ghost use Rattle.shell.specs.Source.{Rose};
 ghost use Rattle.shell.specs.Sink.{Adds, AddsFront};
-ghost use Rattle.shell.specs.Streams.{IsRead, Unread, Grown, NoneLeft};
+ghost use Rattle.shell.specs.Streams.{IsRead, Unread, Took, Grown, NoneLeft};
 
 use crate::sink::{Sink, Wrote};
 use crate::source::{Got, Source};
@@ -32,7 +32,9 @@ impl From<AllocError> for ShellStatus {
 #[derive(Clone, Copy, Debug, PartialEq, Eq)]
 pub struct SinkFault;
 
-/// Reads a source to its end, or to the first byte over the limit.
+/// Reads a source to its end, or to the first byte over the limit. `ReadFault` where the source
+/// failed, `LongInput` where there was a byte over the limit, `OutOfMemory` where there is no
+/// memory; what was read by then is taken from the source.
 pub fn read_all<S: Source>(alloc: Global, source: &mut S) -> Result<Vec<u8>, ShellStatus>
     ensures whole { IfOk result (λ v. IsRead (S.view source.old) v.items (S.view source.new)) }
     ensures unread { IfErr result (λ e. Unread e (S.view source.old) (S.view source.new)) }
@@ -73,6 +75,7 @@ fn read_piece<S: Source>(
         (λ e. (e ≡ ShellStatus.OutOfMemory)
         ⊎ ((e ≡ ShellStatus.ReadFault)
         × Rose (S.view source.old).faults (S.view source.new).faults)) }
+    ensures front { IfErr result (λ _. Took (S.view source.old) (S.view source.new)) }
     ensures count { (S.view source.old).faults ≤ (S.view source.new).faults }
 {
     match source.read(buffer) {
@@ -85,7 +88,7 @@ fn read_piece<S: Source>(
     }
 }
 
-/// Writes all of a text.
+/// Writes all of a text. Where the sink fails a front of the text was written.
 pub fn write_all<K: Sink>(sink: &mut K, text: &[u8]) -> Result<(), SinkFault>
     ensures whole { OnOk result (Adds (K.view sink.old) text.now (K.view sink.new)) }
     ensures front { OnErr result (AddsFront (K.view sink.old) text.now (K.view sink.new)) }

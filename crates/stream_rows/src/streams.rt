@@ -1,4 +1,4 @@
-//! A reader and a writer of small pieces, one call of which fails.
+//! A reader and a writer of small pieces, which fail from one call on.
 
 use std::io;
 use std::io::{Read, Write};

@@ -26,8 +26,11 @@ pub enum WaitEnding {
     FailureState,
     /// The longest wait is over. Times are in nanoseconds.
     ExceededMaxWait {
+        /// How long the waiter may wait in all.
         max_wait: u64,
+        /// From the waiter's start to its last poll.
         elapsed: u64,
+        /// How many polls were answered, at most `u32::MAX`.
         poll_count: u32,
     },
     /// The fuel was used up.

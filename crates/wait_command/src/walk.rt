@@ -7,7 +7,7 @@ use scripted_timers::{ScriptedTimers, ask, state_of};
 use std::alloc::Global;
 use waiters::WaiterOrchestrator;
 
-/// Runs a waiter of these delays over the timers.
+/// Runs a waiter of these delays, in nanoseconds, over the timers.
 pub fn walked(
     alloc: Global,
     min: u64,

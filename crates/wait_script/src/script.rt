@@ -40,7 +40,8 @@ pub struct WaitScript {
     pub polls: List<ScriptedPoll>,
 }
 
-/// The script that the bytes are the text of.
+/// The script that the bytes are the text of. It is refused exactly where they are the text of
+/// none.
 pub fn read_script(alloc: Global, bytes: &[u8]) -> Result<WaitScript, ReadError>
     ensures found { IfOk result (λ s. IsScript bytes.now s) }
     ensures buildable { IfOk result IsBuildable }
@@ -99,7 +100,7 @@ fn only_listed(value: &Value) -> Result<(), ReadError>
     )
 }
 
-/// The polls of a waiter's operation, of which there is one.
+/// The polls of a waiter's operation, at least one.
 #[tactic(auto, unfolding(crate::specs::Script::polls_at))]
 pub fn read_polls(alloc: Global, value: &Value) -> Result<List<ScriptedPoll>, ReadError>
     ensures { Reads result (polls_at (view value.now)) }
@@ -107,7 +108,7 @@ pub fn read_polls(alloc: Global, value: &Value) -> Result<List<ScriptedPoll>, Re
     only_some(polls_in(alloc, items(value)?)?)
 }
 
-// The polls, of which there is one.
+// The polls, at least one.
 fn only_some(polls: List<ScriptedPoll>) -> Result<List<ScriptedPoll>, ReadError>
     ensures { Reads result (some_of polls) }
 {

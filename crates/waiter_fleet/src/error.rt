@@ -10,7 +10,10 @@ pub enum FleetError {
     /// The first waiter whose plan no waiter can follow: its least delay is below a second, or its
     /// greatest delay below the least.
     #[error("the plan of waiter {waiter} has a least delay below a second or above its greatest")]
-    BadPlan { waiter: u32 },
+    BadPlan {
+        /// Its number, from 0 on.
+        waiter: u32,
+    },
     /// An allocation was refused.
     #[error("out of memory")]
     OutOfMemory,

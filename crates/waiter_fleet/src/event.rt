@@ -40,6 +40,7 @@ pub enum FleetEnd {
     FailureState,
     /// The longest wait is over. Times are in nanoseconds.
     ExceededMaxWait {
+        /// How long the waiter may wait in all.
         max_wait: u64,
         /// From the fleet's start to the waiter's last poll.
         elapsed: u64,
@@ -48,6 +49,7 @@ pub enum FleetEnd {
     },
     /// The bucket had fewer tokens than the next poll costs.
     NoQuota {
+        /// In tokens.
         cost: u32,
     },
     /// The fuel was spent before the waiter ended.
@@ -60,17 +62,20 @@ pub enum FleetEnd {
 pub enum FleetEvent {
     /// A poll was answered.
     Poll {
+        /// The waiter's number, from 0 on, as in every event.
         waiter: u32,
         /// The number of the waiter's poll, from 1 on, at most `u32::MAX`.
         number: u32,
         /// What the clock answered after it.
         moment: u64,
+        /// What was seen of the answer.
         seen: Seen,
         /// What the acceptor said of it.
         state: AcceptorState,
     },
     /// The poll doesn't end the waiter, which sleeps now.
     Sleep {
+        /// Who sleeps.
         waiter: u32,
         /// How long. A delay of 0 starts no sleep.
         nanos: u64,
@@ -81,18 +86,25 @@ pub enum FleetEvent {
     },
     /// The next poll was paid for.
     Charged {
+        /// Whose poll it is.
         waiter: u32,
+        /// When, by the clock.
         moment: u64,
     },
     /// The bucket had fewer tokens than the next poll costs.
     Refused {
+        /// Whose poll it is.
         waiter: u32,
+        /// What the poll costs, in tokens.
         cost: u32,
+        /// When, by the clock.
         moment: u64,
     },
     /// The waiter ended.
     End {
+        /// Who ended.
         waiter: u32,
+        /// What it ended with.
         end: FleetEnd,
     },
 }

@@ -10,5 +10,6 @@ pub(crate) struct Ran {
     pub start: u64,
     /// The seat of each waiter.
     pub seats: Vec<Seat>,
+    /// What happened, the first event first.
     pub log: Log,
 }

@@ -13,6 +13,7 @@ use std::marker::Model;
 pub(crate) struct Due {
     /// The moment, in nanoseconds.
     pub moment: u128,
+    /// The waiter's number.
     pub waiter: u32,
 }
 

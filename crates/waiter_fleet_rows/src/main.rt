@@ -13,11 +13,10 @@ ghost use Rattle.std.specs.Prelude.{◌<◌, ◌^◌, length};
 use anyhow::{Context, Result};
 use lines::{print_bucket, print_event};
 use retry_quota::{TokenBucket, TokenBucketBuilder};
-use script::{
-    FAILURE, FOREVER, PLAN, SECOND, SECOND_TIME, ScriptedPoll, THIRD_TIME, UNMATCHED, UNMODELED,
-};
+use script::{FAILURE, FOREVER, PLAN, SECOND_TIME, ScriptedPoll, THIRD_TIME, UNMATCHED, UNMODELED};
 use std::env;
 use waiter_fleet::{FleetEnd, FleetError, FleetEvent, Plan, wait_all};
+use waiters::backoff::SECOND;
 use world::ScriptedWorld;
 
 fn main(rt: HostRuntime) -> Result<()> {

@@ -2,9 +2,7 @@
 
 use smithy_types::AcceptorState;
 use waiter_fleet::Plan;
-
-/// The nanoseconds of a second.
-pub const SECOND: u64 = 1_000_000_000;
+use waiters::backoff::SECOND;
 
 /// The delays of 2, 120 and 300 seconds.
 pub const PLAN: Plan = Plan {

@@ -13,10 +13,12 @@ use std::alloc::Global;
 pub(crate) enum Stop {
     /// The fuel is spent.
     Unfinished,
+    /// An allocation was refused.
     OutOfMemory(OutOfMemory),
 }
 
 impl Stop {
+    /// The error of a walk that stops so.
     pub fn into_error<O, E>(self) -> WaiterError<O, E>
         ensures { result ≡ error_of self }
     {

@@ -12,6 +12,9 @@ pub const SECOND: u64 = 1_000_000_000;
 /// its start, all in nanoseconds. `attempt` counts the polls from 1 on. The word has 64 random
 /// bits, which draw one of the whole seconds from `min` on. Their greatest is `min` doubled with
 /// each attempt, and `max` from the attempt on at which that would pass it.
+///
+/// Where at most `min` would be left behind that delay, it is all the time that is left: 0 where
+/// none is, and maybe more than `max`.
 pub fn delay(min: u64, max: u64, max_wait: u64, attempt: u32, elapsed: u64, word: u64) -> u64
     requires a_second { SECOND ≤ min }
     requires in_order { min ≤ max }

@@ -21,6 +21,7 @@ pub enum WaiterError<O, E> {
     FailureState(FinalPoll<O, E>),
     /// The longest wait is over. Times are in nanoseconds.
     ExceededMaxWait {
+        /// How long the waiter may wait in all.
         max_wait: u64,
         /// From the waiter's start to its last poll.
         elapsed: u64,

@@ -24,8 +24,13 @@ pub enum WaiterCall {
     Word(u64),
     /// `park` was called.
     Park,
-    /// The operation was polled, with this number.
-    Poll { number: u32, answer: PollAnswer },
+    /// The operation was polled.
+    Poll {
+        /// The number of the poll, from 1 on.
+        number: u32,
+        /// What the operation answered.
+        answer: PollAnswer,
+    },
 }
 
 /// Timers that also draw random words and wait.

@@ -34,9 +34,9 @@ pub fn waited(
     fuel: u64,
 ) -> Result<List<FleetEvent>, OutOfMemory>
     requires good { AllGood plans.now }
-    requires some { length plans.now ≤ 64 }
+    requires few_waiters { length plans.now ≤ 64 }
     requires nothing_counted { world.old.waits ≡ 0 }
-    requires few { fuel ≤ 100000 }
+    requires little_fuel { fuel ≤ 100000 }
     ensures { IfOk result (λ events. WaitsAll Does waits_of
         (record { plans = plans.now; book = bucket.old; world = world.old; fuel = fuel }) events
         bucket.new world.new) }

@@ -18,7 +18,8 @@ use std::alloc::Global;
 use wait_script::read_polls;
 use waiter_fleet::Plan;
 
-/// The script that the bytes are the text of. Each of its waiters can follow its plan.
+/// The script that the bytes are the text of. Each of its waiters can follow its plan. It is
+/// refused exactly where the bytes are the text of none.
 pub fn read_script(alloc: Global, bytes: &[u8]) -> Result<WaitersScript, ReadError>
     ensures found { IfOk result (λ s. IsScript bytes.now s) }
     ensures good { IfOk result (λ s. are_good s.waiters ≡ true) }
@@ -97,7 +98,7 @@ fn read_waiters(alloc: Global, value: &Value) -> Result<List<ScriptedWaiter>, Re
     only_some(waiters_in(alloc, items(value)?)?)
 }
 
-// The waiters, of which there is one.
+// The waiters, at least one.
 fn only_some(waiters: List<ScriptedWaiter>) -> Result<List<ScriptedWaiter>, ReadError>
     ensures { Reads result (some_of waiters) }
 {

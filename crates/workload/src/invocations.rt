@@ -12,7 +12,7 @@ use scripted::{Frame, RecordAnswer, ResponseRecord, ScriptedResponse};
 use smithy_types::{Blob, Headers, List, OutOfMemory, Payload, StopPoint};
 use std::alloc::Global;
 
-/// How often the service is unavailable at most, and one more.
+// In how many ways an invocation may go: the service is unavailable 0, 1 or 2 times.
 const OUTCOMES: u64 = 3;
 
 /// The most calls of an invocation.
