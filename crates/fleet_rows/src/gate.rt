@@ -4,7 +4,7 @@ use commands::Gate;
 use std::sync::atomic::{AtomicBool, Ordering};
 
 /// How many reads a call is held at most.
-const TURNS: u32 = 200_000_000;
+const TURNS: u32 = 2_000_000_000;
 
 /// Holds the first call of caller 0 until caller 1 comes to its second one, which it does only
 /// behind an answer of its first. A caller's calls are counted on from run to run.

@@ -12,7 +12,7 @@ use commands::OpenGate;
 use gate::HoldingGate;
 use rows::{ROWS, Row};
 use running::{fleet, print_told};
-use spelling::{RETRY_AND_TWICE, TWO_CALLERS, changed, spelled, with_runs};
+use spelling::{RETRY_AND_TWO_RUNS, TWO_CALLERS, changed, spelled, with_runs};
 use std::sync::Wait;
 use std::thread::Threads;
 
@@ -28,7 +28,7 @@ fn main(rt: HostRuntime) -> Result<()> {
         rt,
         &rt,
         "a call that waits for another caller's next run",
-        RETRY_AND_TWICE,
+        RETRY_AND_TWO_RUNS,
     )
 }
 

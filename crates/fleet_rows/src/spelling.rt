@@ -14,8 +14,9 @@ pub struct Change {
 /// Two callers with a retry each.
 pub const TWO_CALLERS: &str = "CALLER,CALLER";
 
-/// A caller with a retry, and one with two invocations of one attempt each.
-pub const RETRY_AND_TWICE: &str = "CALLER,{\"client\":CLIENT,\"invocations\":[EASY,EASY]}";
+/// A caller with a retry, and one with a success and a failure of one attempt each. The failure
+/// may run beside the retry, so it must change nothing in the bucket.
+pub const RETRY_AND_TWO_RUNS: &str = "CALLER,{\"client\":CLIENT,\"invocations\":[EASY,LOST]}";
 
 // What stands before the callers.
 const FRONT: &str = "{\"bucket\":[500,5,5,10,0,0],\"start\":0,\"words\":[],\"callers\":[";
@@ -43,12 +44,20 @@ const WORDS: &[Change] = &[
         to: "{\"input\":[1,\"hi\"],\"fuel\":1000,\"stop\":\"None\",\"responses\":[TEAPOT]}",
     },
     Change {
+        from: "LOST",
+        to: "{\"input\":[1,\"hi\"],\"fuel\":1000,\"stop\":\"None\",\"responses\":[ABSENT]}",
+    },
+    Change {
         from: "BUSY",
         to: "[0,503,[],[],false,null]",
     },
     Change {
         from: "TEAPOT",
         to: "[0,418,[],[],false,null]",
+    },
+    Change {
+        from: "ABSENT",
+        to: "[0,404,[],[],false,null]",
     },
     Change {
         from: "CLIENT",
