@@ -39,7 +39,7 @@ module _ (place : Place) (work : CallerWork) (text : List ℕ) (outcome : Option
   none_made : own w.first.parts.quota.pass.view ≡ []
   none_made = ap (λ (q : Caller Pace). own q.pass.view) w.built.parts.quota_is ∙ ap (λ ps. calls_at ps w.pass.view.seen) w.unused.unused
 
-  pub all_steps : AreOfDecisions w.plays.runs.runs steps
+  pub all_steps : AreOfDecisions place.opening.book w.plays.runs.runs steps
   all_steps =
       let runs = ran place own_says own_chain (identities_of work.client.auth) w.first.parts w.plays.last w.plays.runs.runs w.plays.runs.made in
       let closing = closes place w.plays.last.quota w.plays.after w.plays.last.strategy w.plays.emptied w.plays.closes in
@@ -47,6 +47,6 @@ module _ (place : Place) (work : CallerWork) (text : List ℕ) (outcome : Option
       record {
         made = runs.0;
         held = held_in place w.plays.last.strategy;
-        decisions = subst (λ x. RunsSteps w.plays.runs.runs x runs.0 (held_in place w.plays.last.strategy)) starts runs.1;
+        decisions = subst (λ x. RunsSteps place.opening.book w.plays.runs.runs x runs.0 (held_in place w.plays.last.strategy)) starts runs.1;
         all = w.plays.steps_are ∙ closing ∙ ap (λ l. l ++ given) (runs.2 ∙ ap (λ l. l ++ runs.0) none_made);
       }

@@ -6,3 +6,4 @@ pub mod Crosses
 pub mod Closing
 pub mod Stepping
 pub mod Deciding
+pub mod Telling

@@ -44,6 +44,7 @@ module _ {L : Type 0} (means : Limiters L) where
   pays_nothing m n retry bucket number word cost wait failed kind now retry_after long paced held costs pauses step = record {
     reply = Ok tt;
     grant = None;
+    shown = tt;
     choice = refl;
     reason = ap NoQuota costs;
     long_poll = pauses;
@@ -52,11 +53,12 @@ module _ {L : Type 0} (means : Limiters L) where
   }
 
   pub pays : (m mid n : Meaning L) (retry : RetryConfig) (bucket number word cost wait amount of : ℕ) (failed : Bool) (kind : ErrorKind) (now retry_after : Option ℕ) (paced : Option Paced) (held after : Option Permit)
-      → cost ≡ m.cost bucket kind → after ≡ Some (record { bucket = of; amount = amount }) → of ≡ bucket → Steps m bucket (Acquire kind (second_of now)) (acquire_reply (Some amount)) mid → Chained (Calls means) mid (forgetting held) n
+      → cost ≡ m.cost bucket kind → after ≡ Some (record { bucket = of; amount = amount }) → of ≡ bucket → amount ≡ m.cost bucket kind → Steps m bucket (Acquire kind (second_of now)) (acquire_reply (Some amount)) mid → Chained (Calls means) mid (forgetting held) n
       → Comes means m (λ _. paying (case_of retry bucket failed number (RetryIndicated kind retry_after) now word paced m) kind wait held) (record { choice = Delay wait; reason = Granted cost; long_poll = None }) after n
-  pays m mid n retry bucket number word cost wait amount of failed kind now retry_after paced held after costs holds own step made = record {
+  pays m mid n retry bucket number word cost wait amount of failed kind now retry_after paced held after costs holds own owed step made = record {
     reply = Ok tt;
     grant = Some amount;
+    shown = ap Granted (costs ∙ sym owed);
     choice = refl;
     reason = ap Granted costs;
     long_poll = refl;
@@ -82,6 +84,7 @@ module _ {L : Type 0} (means : Limiters L) where
       record {
         reply = asks.reply;
         grant = paid.grant;
+        shown = paid.shown;
         choice = paid.choice ∙ ap (λ (o : Decided). o.choice) same;
         reason = paid.reason ∙ ap (λ (o : Decided). o.reason) same;
         long_poll = paid.long_poll ∙ ap (λ (o : Decided). o.long_poll) same;
@@ -110,6 +113,7 @@ module _ {L : Type 0} (means : Limiters L) where
       record {
         reply = comes.reply;
         grant = comes.grant;
+        shown = comes.shown;
         choice = comes.choice ∙ ap (λ (o : Decided). o.choice) same;
         reason = comes.reason ∙ ap (λ (o : Decided). o.reason) same;
         long_poll = comes.long_poll ∙ ap (λ (o : Decided). o.long_poll) same;
@@ -123,6 +127,7 @@ module _ {L : Type 0} (means : Limiters L) where
   comes_refused m c verdict held d reason is choice reasons long = record {
     reply = Ok tt;
     grant = None;
+    shown = tt;
     choice = rw (is (Ok tt) None) choice;
     reason = rw (is (Ok tt) None) reasons;
     long_poll = rw (is (Ok tt) None) long;

@@ -1,6 +1,6 @@
 -- What a strategy decides, and the calls on the quota that it makes for it. Nothing here asks what the quota tells: the
 -- replies of the limiter and of the bucket are handed in, and the quota's own meaning says which replies may come.
-use Rattle.std.specs.Prelude.{◌≡◌, ℕ, ◌/◌, Bool, true, false, ◌&&◌, if◌then◌else◌, nat_le, nat_lt, List, [], ◌∷◌, ◌++◌, Option, None, Some, Result, Ok, Err}
+use Rattle.std.specs.Prelude.{◌≡◌, ℕ, ◌/◌, Bool, true, false, ◌&&◌, if◌then◌else◌, nat_le, nat_lt, List, [], ◌∷◌, ◌++◌, Option, None, Some, IfSome, Result, Ok, Err}
 use Rattle.smithy_context.specs.StandingLayers.{StandingLayers}
 use Rattle.smithy_context.specs.declared.context.InterceptorContext.{InterceptorContext}
 use Rattle.smithy_context.specs.Failures.{is_failure}
@@ -183,10 +183,12 @@ pub record Stands {L : Type 0} (means : Limiters L) (m : Meaning L) (settings : 
   pub there : m.has bucket ≡ true
   pub found : FindsLimiter means m (uses_limiter retry now) now (standing_partition settings) paced n
 
--- with some replies of the limiter and of the bucket it is so decided, and the quota makes the calls of it
+-- with some replies of the limiter and of the bucket it is so decided, and the quota makes the calls of it; a bucket that
+-- grants gives just the tokens that the reason shows
 pub record Comes {L : Type 0} (means : Limiters L) (m : Meaning L) (decided : Result (Unit {0}) ℕ → Option ℕ → Decided) (d : Decision) (held_after : Option Permit) (n : Meaning L) : Type 0 where
   pub reply : Result (Unit {0}) ℕ
   pub grant : Option ℕ
+  pub shown : IfSome grant (λ amount. d.reason ≡ Granted amount)
   pub choice : d.choice ≡ (decided reply grant).choice
   pub reason : d.reason ≡ (decided reply grant).reason
   pub long_poll : d.long_poll ≡ (decided reply grant).long_poll

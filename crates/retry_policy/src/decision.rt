@@ -34,8 +34,8 @@ pub enum StrategyError {
     /// set.
     #[error("a setting that the retry strategy needs isn't there")]
     MissingSetting,
-    #[error("out of memory")]
     /// An allocation was refused.
+    #[error("out of memory")]
     OutOfMemory,
 }
 

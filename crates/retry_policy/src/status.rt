@@ -69,6 +69,7 @@ impl HttpStatusCodeClassifier {
             None
         }
     }
+
     // Whether the status is one of those.
     fn has(&self, status: u16) -> bool
         ensures { result ≡ list_any (λ code. code == status) self.now.codes }

@@ -13,4 +13,4 @@ returns-in-Some g c retry_after =
     let step = rw (c.in-Some.is, c.second_of.ensures) at c.acquire.ensures.step in
     let permit = rw c.in-Some.is at c.acquire.ensures.permit in
     pays _ _ _ _ a.retry a.bucket a.number a.word _ _ _ _ a.failed c.args.kind a.now retry_after a.paced _ _ c.cost-cost.ensures
-    c.keep.ensures.held permit.0 step c.keep.ensures.made
+    c.keep.ensures.held permit.0 permit.1 step c.keep.ensures.made
