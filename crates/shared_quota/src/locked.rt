@@ -60,12 +60,15 @@ fn left(bucket: &TokenBucket, terms: &BucketTerms, capacity: u64) -> BucketState
     ensures held { result.held ≡ bucket.now.held }
     ensures sound { AreSound capacity result }
 {
+    // The clauses alone speak of these two.
     let _terms = terms;
     let _capacity = capacity;
     bucket.state()
 }
 
 impl<L: Ledger> Locked<L> {
+    /// Pays for a retry after a failure of this kind, at this second. Where it is granted, the
+    /// share's amount rises by the permit.
     pub fn acquire(
         &mut self,
         share: &mut Share<L>,
@@ -104,6 +107,7 @@ impl<L: Ledger> Locked<L> {
         permit
     }
 
+    /// Gives a permit's tokens back. The share's amount falls by the permit.
     pub fn release(&mut self, share: &mut Share<L>, terms: &BucketTerms, permit: Permit)
         requires { permit.amount ≤ share.old.amount }
         ensures book { locked_book terms.now self.new.capacity self.new.state ≡
@@ -127,6 +131,7 @@ impl<L: Ledger> Locked<L> {
         *steps = steps.saturating_add(1);
     }
 
+    /// Gives a permit's tokens up. The share's amount falls by the permit.
     pub fn forget(&mut self, share: &mut Share<L>, terms: &BucketTerms, permit: Permit)
         requires { permit.amount ≤ share.old.amount }
         ensures book { locked_book terms.now self.new.capacity self.new.state ≡
@@ -150,6 +155,7 @@ impl<L: Ledger> Locked<L> {
         *steps = steps.saturating_add(1);
     }
 
+    /// Adds the reward of a success to the fraction, up to the thousandths of the capacity.
     pub fn reward_success(&mut self, terms: &BucketTerms)
         ensures book { locked_book terms.now self.new.capacity self.new.state ≡
             after Reward (locked_book terms.now self.old.capacity self.old.state) }
@@ -161,6 +167,7 @@ impl<L: Ledger> Locked<L> {
         self.steps = self.steps.saturating_add(1);
     }
 
+    /// Adds a token, where there is room for it.
     pub fn regenerate_a_token(&mut self, terms: &BucketTerms)
         ensures book { locked_book terms.now self.new.capacity self.new.state ≡
             after Regenerate (locked_book terms.now self.old.capacity self.old.state) }
@@ -172,6 +179,8 @@ impl<L: Ledger> Locked<L> {
         self.steps = self.steps.saturating_add(1);
     }
 
+    /// Whether nothing can be added, once whole tokens have left the fraction. It is no step that
+    /// counts.
     pub fn is_full(&mut self, terms: &BucketTerms) -> bool
         ensures book { locked_book terms.now self.new.capacity self.new.state ≡
             after Convert (locked_book terms.now self.old.capacity self.old.state) }
@@ -184,6 +193,8 @@ impl<L: Ledger> Locked<L> {
         full
     }
 
+    /// Whether no token is available, once whole tokens have left the fraction. It is no step that
+    /// counts.
     pub fn is_empty(&mut self, terms: &BucketTerms) -> bool
         ensures book { locked_book terms.now self.new.capacity self.new.state ≡
             after Convert (locked_book terms.now self.old.capacity self.old.state) }
@@ -196,7 +207,7 @@ impl<L: Ledger> Locked<L> {
         empty
     }
 
-    // With all shares in one, what is held is that share's amount.
+    /// The five sums. With all shares in one, what is held is that share's amount.
     pub fn sums(&mut self, share: &mut Share<L>) -> Sums
         ensures sums { (terms : _) →
             result ≡ sums_of (locked_book terms self.old.capacity self.old.state) }

@@ -17,6 +17,8 @@ ghost use Rattle.retry_quota.specs.Book.{cost_of, is_empty, is_full};
 use retry_quota::{Permit, TokenBucket};
 use smithy_types::ErrorKind;
 
+/// Pays for a retry after a failure of this kind, at this second. Where it is granted, the permit's
+/// amount is held.
 pub fn acquire(bucket: &mut TokenBucket, kind: ErrorKind, now_secs: u64) -> Option<Permit>
     ensures book { bucket.new ≡ after (Acquire kind now_secs) bucket.old }
     ensures reply { acquire_reply (option_map (λ p. p.amount) result) ≡
@@ -30,6 +32,7 @@ pub fn acquire(bucket: &mut TokenBucket, kind: ErrorKind, now_secs: u64) -> Opti
     permit
 }
 
+/// Gives a permit's tokens back.
 pub fn release(bucket: &mut TokenBucket, permit: Permit)
     requires { permit.amount ≤ bucket.old.held }
     ensures book { bucket.new ≡ after (Release permit.amount) bucket.old }
@@ -38,6 +41,7 @@ pub fn release(bucket: &mut TokenBucket, permit: Permit)
     bucket.release(permit);
 }
 
+/// Gives a permit's tokens up.
 pub fn forget(bucket: &mut TokenBucket, permit: Permit)
     requires { permit.amount ≤ bucket.old.held }
     ensures book { bucket.new ≡ after (Forget permit.amount) bucket.old }
@@ -46,6 +50,7 @@ pub fn forget(bucket: &mut TokenBucket, permit: Permit)
     bucket.forget(permit);
 }
 
+/// Adds a token, where there is room for it.
 pub fn regenerate_a_token(bucket: &mut TokenBucket)
     ensures book { bucket.new ≡ after Regenerate bucket.old }
     ensures held { bucket.new.held ≡ bucket.old.held }
@@ -53,6 +58,7 @@ pub fn regenerate_a_token(bucket: &mut TokenBucket)
     bucket.regenerate_a_token();
 }
 
+/// Whether nothing can be added, once whole tokens have left the fraction.
 pub fn is_full(bucket: &mut TokenBucket) -> bool
     ensures book { bucket.new ≡ after Convert bucket.old }
     ensures full { result ≡ is_full bucket.new }
@@ -61,6 +67,7 @@ pub fn is_full(bucket: &mut TokenBucket) -> bool
     bucket.is_full()
 }
 
+/// Whether no token is available, once whole tokens have left the fraction.
 pub fn is_empty(bucket: &mut TokenBucket) -> bool
     ensures book { bucket.new ≡ after Convert bucket.old }
     ensures empty { result ≡ is_empty bucket.new }

@@ -1,4 +1,4 @@
-//! Two handles on one bucket, and a caller's quota through its trait.
+//! Two handles on one bucket, a caller's quota through its trait, and what is earned.
 ghost use Rattle.std.specs.Prelude.{◌≡◌};
 
 use crate::{SharedBucket, SharedQuota};
@@ -117,4 +117,42 @@ fn a_caller_pays_by_its_quota_and_a_foreign_permit_changes_nothing(
     rt: HostRuntime,
 ) -> Result<(), Fail> {
     serve::<Brand, _>(&rt, rt.alloc(), Blank::new(1))
+}
+
+// A success counts once a caller looks, a regenerated token at once.
+fn earn<L: Ledger, R: Wait + Abort>(rt: &R, alloc: Global, blank: Blank) -> Result<(), Fail>
+    requires name { blank.name ≡ L.name }
+    requires parts { blank.parts ≡ L.parts }
+    requires one { blank.parts ≡ 1 }
+{
+    let bucket = TokenBucket::builder()
+        .capacity(12)
+        .timeout_retry_cost(12)
+        .success_reward(1000)
+        .build();
+    let mut handle = SharedBucket::<L>::new(alloc, blank, bucket)?;
+    let permit = handle.acquire(rt, ErrorKind::TransientError, 0);
+    assert!(rt; handle.is_empty(rt));
+    assert!(rt; !handle.is_full(rt));
+    assert!(rt; sums_are(handle.sums(rt), 0, 0, 12, 0));
+    if let Some(permit) = permit {
+        handle.forget(rt, permit);
+    }
+    handle.reward_success(rt);
+    assert!(rt; sums_are(handle.sums(rt), 0, 0, 0, 12));
+    assert!(rt; !handle.is_empty(rt));
+    assert!(rt; sums_are(handle.sums(rt), 1, 1, 0, 12));
+    handle.reward_success(rt);
+    assert!(rt; !handle.is_full(rt));
+    assert!(rt; sums_are(handle.sums(rt), 2, 2, 0, 12));
+    handle.regenerate_a_token(rt);
+    assert!(rt; sums_are(handle.sums(rt), 3, 3, 0, 12));
+    Ok(())
+}
+
+#[test]
+fn a_reward_counts_at_the_next_look_and_a_regenerated_token_at_once(
+    rt: HostRuntime,
+) -> Result<(), Fail> {
+    earn::<Brand, _>(&rt, rt.alloc(), Blank::new(1))
 }
