@@ -202,8 +202,8 @@ pub type Ending = Result<
 /// Asks for the order until it is ready, with 2 to 120 seconds between two polls, and at most 300
 /// seconds in all. The fuel bounds the polls and the asks of sleeps, and is spent where the wait is
 /// `Unfinished`. A wait that succeeds ends with an order that is ready; each other ending is that
-/// of its walk of polls and delays. Each poll is one invocation of the operation, and what the waiter
-/// asks of clock and sleeps is asked of the client's outside.
+/// of its walk of polls and delays. Each poll is one invocation of the operation, and what the
+/// waiter asks of clock and sleeps is asked of the client's outside.
 pub fn wait<Q: Quota + Drop, C: ClassifyRetry, I: TakeOffer>(
     watch: &mut Watch<Q, C, I>,
     fuel: u64,
