@@ -106,8 +106,8 @@ pub fn sums_of(quota: &ClientQuota, number: u32) -> Option<Sums>
     }
 }
 
-// The number of the bucket behind this one. There is none behind the last of a u32, as no registry has more
-// buckets.
+// The number of the bucket behind this one. There is none behind the last of a u32, as no registry
+// has more buckets.
 fn next_bucket(number: u32) -> Result<u32, OutOfMemory>
     ensures { IfOk result (λ n. n ≡ number + 1) }
 {
