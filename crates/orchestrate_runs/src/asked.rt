@@ -17,6 +17,7 @@ pub const CONFIGURED: &[Kind] = &[
     Configure(ConfigureStage::Final),
 ];
 
+/// The deadline of the operation.
 pub const OPERATION_STARTED: &[Kind] = &[Start(Role::Operation)];
 
 /// Up to the request.
@@ -33,6 +34,7 @@ pub const GRANTED: &[Kind] = &[
     Initial,
 ];
 
+/// The deadline of an attempt.
 pub const ATTEMPT_STARTED: &[Kind] = &[Start(Role::Attempt)];
 
 /// The begin of an attempt, up to the choice of an auth scheme.
@@ -50,6 +52,7 @@ pub const SIGNED: &[Kind] = &[
     Kind::Hook(Hook::ReadBeforeTransmit),
 ];
 
+/// The request is sent.
 pub const TRANSMITTED: &[Kind] = &[Transmit];
 
 /// From the response up to its body.
@@ -61,8 +64,10 @@ pub const READ: &[Kind] = &[
     Body,
 ];
 
+/// The response is made an output or an error.
 pub const DESERIALIZED: &[Kind] = &[Deserialize];
 
+/// The hook once it is an output or an error.
 pub const READ_AFTER: &[Kind] = &[Kind::Hook(Hook::ReadAfterDeserialization)];
 
 /// The completion of an attempt.
@@ -71,6 +76,7 @@ pub const COMPLETED: &[Kind] = &[
     Kind::Hook(Hook::ReadAfterAttempt),
 ];
 
+/// Whether a further attempt is made.
 pub const DECIDED: &[Kind] = &[Decide];
 
 /// The delay before a further attempt.

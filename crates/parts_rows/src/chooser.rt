@@ -5,7 +5,6 @@ use crate::said::{answer_text, asked_text};
 use crate::scripts::{Ending, Source, outside};
 use crate::service::Scheme;
 use crate::standing::choosing;
-use anyhow::Result as Told;
 use auth_parts::{Identities, IdentitySource, RegisteredSource};
 use call_parts::park::park;
 use identity_cell::{NoAuthIdentityResolver, SharedIdentityCache};
@@ -16,7 +15,7 @@ use std::alloc::Global;
 
 /// Where an identity comes from.
 #[derive(Clone, Copy, Debug)]
-pub enum From {
+pub enum Origin {
     /// The outside loads it.
     Outside,
     /// It is nobody's.
@@ -43,7 +42,7 @@ pub struct Row {
     /// The ids of the schemes.
     pub schemes: &'static [&'static str],
     /// The sources by their ids.
-    pub sources: &'static [(&'static str, From)],
+    pub sources: &'static [(&'static str, Origin)],
     /// The ids that are preferred.
     pub prefers: Option<&'static [&'static str]>,
     /// The ids that the endpoint lists.
@@ -117,12 +116,12 @@ fn client(alloc: Global, row: &Row) -> Result<Chooser, OutOfMemory> {
     })
 }
 
-fn source(id: &'static str, from: From) -> RegisteredSource<NoAuthIdentityResolver> {
+fn source(id: &'static str, origin: Origin) -> RegisteredSource<NoAuthIdentityResolver> {
     RegisteredSource {
         id: Text::from_static(id),
-        source: match from {
-            From::Outside => IdentitySource::Outside,
-            From::Nobody => IdentitySource::Resolver(NoAuthIdentityResolver::new()),
+        source: match origin {
+            Origin::Outside => IdentitySource::Outside,
+            Origin::Nobody => IdentitySource::Resolver(NoAuthIdentityResolver::new()),
         },
     }
 }
@@ -147,7 +146,7 @@ fn choose(alloc: Global, client: &mut Chooser) -> Result<Answer, OutOfMemory> {
     )
 }
 
-fn told(alloc: Global, client: &mut Chooser, step: Step) -> Told<String> {
+fn told(alloc: Global, client: &mut Chooser, step: Step) -> anyhow::Result<String> {
     match step {
         Step::Choose => answer_text(alloc, &choose(alloc, client)?),
         Step::End => {
@@ -159,12 +158,12 @@ fn told(alloc: Global, client: &mut Chooser, step: Step) -> Told<String> {
 }
 
 // What was asked of the outside since the last line.
-fn asked(alloc: Global, client: &mut Chooser) -> Told<String> {
+fn asked(alloc: Global, client: &mut Chooser) -> anyhow::Result<String> {
     let calls = client.outside.take(alloc);
     asked_text(alloc, calls.as_slice())
 }
 
-fn line(alloc: Global, client: &mut Chooser, step: Step) -> Told<String> {
+fn line(alloc: Global, client: &mut Chooser, step: Step) -> anyhow::Result<String> {
     let moment = client.outside.script.moment;
     let answer = told(alloc, client, step)?;
     let asked = asked(alloc, client)?;
@@ -172,7 +171,7 @@ fn line(alloc: Global, client: &mut Chooser, step: Step) -> Told<String> {
     Ok(format!(in alloc; "at {moment} {step:?}: {answer}; {loads} loads; asked:{asked}")?)
 }
 
-fn print_row(rt: &HostRuntime, row: &Row) -> Told<()> {
+fn print_row(rt: &HostRuntime, row: &Row) -> anyhow::Result<()> {
     println!(rt; "choices: {}", row.name)?;
     let mut client = client(rt.alloc(), row)?;
     for step in row.steps {
@@ -183,7 +182,7 @@ fn print_row(rt: &HostRuntime, row: &Row) -> Told<()> {
 }
 
 /// Prints what each client chooses, and what its outside is asked.
-pub fn print(rt: &HostRuntime, rows: &[Row]) -> Told<()> {
+pub fn print(rt: &HostRuntime, rows: &[Row]) -> anyhow::Result<()> {
     for row in rows {
         print_row(rt, row)?;
     }

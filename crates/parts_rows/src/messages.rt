@@ -4,7 +4,6 @@ use crate::chooser::texts;
 use crate::said::answer_text;
 use crate::service::{BytesSerializer, Scheme, StatusDeserializer};
 use crate::standing::prefixed;
-use anyhow::Result as Told;
 use auth_parts::apply::{apply, resolve_endpoint};
 use auth_parts::deserialize::{deserialize, stream};
 use auth_parts::serialize::serialize;
@@ -265,7 +264,7 @@ fn deserialized(alloc: Global, status: Option<u16>) -> Result<Answer, OutOfMemor
     deserialize(alloc, &StatusDeserializer, &response, &settings)
 }
 
-fn print_inputs(rt: &HostRuntime) -> Told<()> {
+fn print_inputs(rt: &HostRuntime) -> anyhow::Result<()> {
     for input in INPUTS {
         let text = answer_text(rt.alloc(), &serialized(rt.alloc(), input)?)?;
         println!(rt; "Serialize {input:?}: {text}")?;
@@ -273,14 +272,14 @@ fn print_inputs(rt: &HostRuntime) -> Told<()> {
     Ok(())
 }
 
-fn print_endpoint(rt: &HostRuntime) -> Told<()> {
+fn print_endpoint(rt: &HostRuntime) -> anyhow::Result<()> {
     let endpoint = endpoint(rt.alloc(), "http://h", None)?;
     let text = answer_text(rt.alloc(), &resolve_endpoint(&endpoint)?)?;
     println!(rt; "Endpoint: {text}")?;
     Ok(())
 }
 
-fn print_applied(rt: &HostRuntime) -> Told<()> {
+fn print_applied(rt: &HostRuntime) -> anyhow::Result<()> {
     for row in APPLIED {
         let text = answer_text(rt.alloc(), &applied_row(rt.alloc(), *row)?)?;
         println!(rt;
@@ -293,7 +292,7 @@ fn print_applied(rt: &HostRuntime) -> Told<()> {
     Ok(())
 }
 
-fn print_signed(rt: &HostRuntime) -> Told<()> {
+fn print_signed(rt: &HostRuntime) -> anyhow::Result<()> {
     for row in SIGNED {
         let text = answer_text(rt.alloc(), &signed(rt.alloc(), row)?)?;
         println!(rt;
@@ -304,7 +303,7 @@ fn print_signed(rt: &HostRuntime) -> Told<()> {
     Ok(())
 }
 
-fn print_responses(rt: &HostRuntime) -> Told<()> {
+fn print_responses(rt: &HostRuntime) -> anyhow::Result<()> {
     for (may_stream, status) in RESPONSES {
         let head = answer_text(rt.alloc(), &streamed(rt.alloc(), may_stream, status)?)?;
         println!(rt; "Stream {status:?}, may stream {may_stream}: {head}")?;
@@ -315,7 +314,7 @@ fn print_responses(rt: &HostRuntime) -> Told<()> {
 }
 
 /// Prints what each question is answered.
-pub fn print(rt: &HostRuntime) -> Told<()> {
+pub fn print(rt: &HostRuntime) -> anyhow::Result<()> {
     print_inputs(rt)?;
     print_endpoint(rt)?;
     print_applied(rt)?;

@@ -1,5 +1,4 @@
 //! A registry's limiters by their numbers, through the trait of quotas.
-use anyhow::Result as Told;
 use free_limiter::FreeLimiter;
 use retry_quota::{Limiter, Quota, Registry, RequestReason};
 use smithy_types::OutOfMemory;
@@ -20,12 +19,12 @@ fn ask<Q: Quota>(quota: &mut Q, limiter: u32) -> Result<(), u64> {
 }
 
 /// Prints what a limiter and one that isn't there answer.
-pub fn print(rt: &HostRuntime) -> Told<()> {
+pub fn print(rt: &HostRuntime) -> anyhow::Result<()> {
     println!(rt; "a free limiter and one that isn't there refuse nothing")?;
     print_asked(rt, &mut one_limiter(rt.alloc())?)
 }
 
-fn print_asked<Q: Quota>(rt: &HostRuntime, quota: &mut Q) -> Told<()> {
+fn print_asked<Q: Quota>(rt: &HostRuntime, quota: &mut Q) -> anyhow::Result<()> {
     for limiter in 0..2 {
         throttle(quota, limiter);
         println!(rt; "  limiter {limiter}: {:?}", ask(quota, limiter))?;
