@@ -48,35 +48,22 @@ pub fn command_in(words: &[Text]) -> Option<Command>
     }
 }
 
+// The command that this word alone is.
 #[tactic(auto, unfolding(crate::specs::Words::one_word))]
 fn named_command(word: &str) -> Option<Command>
     ensures { result ≡ one_word word.now }
 {
-    if word == "--help" {
-        return Some(Command::Help);
+    match word {
+        "--help" => Some(Command::Help),
+        "--version" => Some(Command::Version),
+        "replay" => Some(Command::Replay),
+        "client" => Some(Command::Client),
+        "wait" => Some(Command::Wait),
+        "waiters" => Some(Command::Waiters),
+        "fleet" => Some(Command::Fleet),
+        "check" => Some(Command::Check),
+        _ => None,
     }
-    if word == "--version" {
-        return Some(Command::Version);
-    }
-    if word == "replay" {
-        return Some(Command::Replay);
-    }
-    if word == "client" {
-        return Some(Command::Client);
-    }
-    if word == "wait" {
-        return Some(Command::Wait);
-    }
-    if word == "waiters" {
-        return Some(Command::Waiters);
-    }
-    if word == "fleet" {
-        return Some(Command::Fleet);
-    }
-    if word == "check" {
-        return Some(Command::Check);
-    }
-    None
 }
 
 // Decimal digits that fit a u64, without a leading zero.
