@@ -1,11 +1,14 @@
 -- What a watch of an order makes of a waiter's calls, and what a poll of it means.
-use Rattle.std.specs.Prelude.{◌≡◌, ℕ, List, Result, Ok, Err, Some, MatchResult, codes}
+use Rattle.std.specs.Prelude.{◌≡◌, ℕ, true, false, List, [], ◌∷◌, Result, Ok, Err, Some, MatchResult, codes}
 use Rattle.std.specs.Borrow.{Bor}
 use Rattle.std.proofs.Common.{ap}
 use Rattle.smithy_types.specs.declared.acceptor.AcceptorState.{AcceptorState}
 use Rattle.smithy_types.specs.declared.acceptor.AcceptorState.TheVariants.{Success, Failure, Retry}
 use Rattle.smithy_types.specs.declared.fault.FaultKind.TheVariants.{Other}
-use Rattle.smithy_types.specs.declared.fault.SdkError.TheVariants.{ConstructionFailure}
+use Rattle.smithy_types.specs.declared.fault.SdkError.TheVariants.{DispatchFailure}
+use Rattle.smithy_types.specs.Chain.{Chained}
+use Rattle.smithy_types.specs.declared.timers.TimersCall.{TimersCall}
+use Rattle.smithy_types.specs.declared.timers.TimersCall.TheVariants as timers
 use Rattle.text_payloads.specs.Text.{is_text}
 use Rattle.bakery_model.specs.Model.{error_of, is_error, is_state, state_of}
 use Rattle.bakery_model.specs.declared.model.BakeryError.{BakeryError}
@@ -17,6 +20,7 @@ use Rattle.orchestrate.specs.Answered.{InputAnswered}
 use Rattle.orchestrate.specs.declared.execution.InvokeError.{InvokeError}
 use Rattle.orchestrate.specs.declared.execution.InvokeError.TheVariants as invoked
 use Rattle.outside.specs.Calls as calls
+use Rattle.outside.specs.Calls.{OutsideCall}
 use Rattle.run_grammar.specs.declared.answer.Entry.{Entry}
 use Rattle.scripted.specs.Makes.{Makes}
 use Rattle.scripted.specs.declared.scripted_outside.ScriptedOutside.{ScriptedOutside}
@@ -37,12 +41,12 @@ accepted Ready = Success
 abbrev pub Says : Result (Bor GetOrderOutput) (Bor BakeryError) → AcceptorState → Type 0
 Says seen state = MatchResult seen (λ output. state ≡ accepted output.now.state) (λ error. state ≡ Failure)
 
--- an invocation's answer as that of a poll: what is no SdkError is told as one
+-- an invocation's answer as that of a poll: what is no SdkError is told as a failed dispatch
 abbrev pub told : Result GetOrderOutput (InvokeError BakeryError) → Answer GetOrderOutput BakeryError
 told (Ok output) = Ok (Some (Ok output))
 told (Err (invoked.Sdk error)) = Ok (Some (Err error))
-told (Err invoked.Unfinished) = Ok (Some (Err (ConstructionFailure (record { kind = Other; text = codes "the fuel is used up" }))))
-told (Err (invoked.WrongType payload)) = Ok (Some (Err (ConstructionFailure (record { kind = Other; text = codes "an answer of another kind" }))))
+told (Err invoked.Unfinished) = Ok (Some (Err (DispatchFailure (record { kind = Other; text = codes "the fuel is used up" }))))
+told (Err (invoked.WrongType payload)) = Ok (Some (Err (DispatchFailure (record { kind = Other; text = codes "an answer of another kind" }))))
 told (Err invoked.OutOfMemory) = Err (record {})
 
 -- an invocation of `GetOrder` for this order answers so, and its log grows so
@@ -56,6 +60,14 @@ abbrev pub AsksFor : GetOrderInput → Answer GetOrderOutput BakeryError → Lis
 AsksFor input found before log =
     (answer : Result GetOrderOutput (InvokeError BakeryError)) × (found ≡ told answer) × Invokes input answer before log
 
+-- the calls of the outside that a call of the timers makes: a sleep that is over is given up
+abbrev pub made_for : TimersCall → List OutsideCall
+made_for (timers.Ready sleep true) = calls.OfTimers (timers.Ready sleep true) ∷ calls.OfTimers (timers.GiveUp sleep) ∷ []
+made_for (timers.Ready sleep false) = calls.OfTimers (timers.Ready sleep false) ∷ []
+made_for (timers.Now moment) = calls.OfTimers (timers.Now moment) ∷ []
+made_for (timers.Start nanos sleep) = calls.OfTimers (timers.Start nanos sleep) ∷ []
+made_for (timers.GiveUp sleep) = calls.OfTimers (timers.GiveUp sleep) ∷ []
+
 module _ {Q C I P L : Type 0} where
   -- the outside of its client
   abbrev pub outside_of : Watch Q C I P L → ScriptedOutside
@@ -68,11 +80,11 @@ module _ {Q C I P L : Type 0} where
     unready = unready;
   }
 
-  -- A call of a waiter is made of its client's outside, a sleep that wasn't over is counted, and
-  -- nothing else changes. A poll leaves the count as it was.
+  -- A call of a waiter is made of its client's outside, where a sleep that is over is given up, a
+  -- sleep that wasn't over is counted, and nothing else changes. A poll leaves the count as it was.
   abbrev pub Passes : Watch Q C I P L → WaiterCall → Watch Q C I P L → Type 0
   Passes old (Timers call) new =
-      Makes (outside_of old) (calls.OfTimers call) (outside_of new)
+      Chained Makes (outside_of old) (made_for call) (outside_of new)
       × Counts old.unready (Timers call) new.unready × (new ≡ waited old (outside_of new) new.unready)
   Passes old (Word word) new =
       Makes (outside_of old) (calls.Word word) (outside_of new) × (new ≡ waited old (outside_of new) old.unready)

@@ -2,14 +2,20 @@
 //! of it, Q the quota that retries are paid from, C a classifier of retries and I an interceptor.
 ghost use Rattle.std.specs.List.{AllByRecursion};
 ghost use Rattle.std.specs.Prelude.{◌≡◌, ◌++◌, List, true};
+ghost use Rattle.auth_parts.specs.Identities.{ending_choice};
 ghost use Rattle.bakery_model.specs.Model.{error_of, is_error};
+ghost use Rattle.call_parts.specs.Ending.{ending_calls};
 ghost use Rattle.client_laws.specs.Attempting.{GrewAsAllowed, IsOfWholeRun};
 ghost use Rattle.client_laws.specs.Telling.{TellsBuckets};
 ghost use Rattle.components.specs.Paying.{Pays};
 ghost use Rattle.orchestrate.specs.Answered.{InputAnswered};
 ghost use Rattle.orchestrate.specs.Growth.{GrewByAtMost};
 ghost use Rattle.orchestrate.specs.Handing.{HadMemory};
+ghost use Rattle.retry_parts.specs.Strategies.{Closes};
+ghost use Rattle.retry_parts.specs.declared.strategy.RetryStrategy.{RetryStrategy};
+ghost use Rattle.retry_quota.specs.Calls.{limiters_by};
 ghost use Rattle.run_grammar.specs.declared.answer.Entry.{Entry};
+ghost use Rattle.smithy_types.specs.Chain.{Chained};
 ghost use Rattle.smithy_types.specs.Config.{standard_retry};
 
 use bakery_model::BakeryError;
@@ -113,13 +119,27 @@ pub fn invoke<
     operation.invoke(alloc, client, input, fuel)
 }
 
-/// Takes outside and quota out of a client, for that of another operation.
+/// Takes outside and quota out of a client, for that of another operation. First it ends what is
+/// open outside (the load of an identity, the call and the sleeps), and gives the permit back that
+/// the retry strategy still holds.
 pub fn taken_apart<X: Outside + Drop, Q: Quota + Drop, C: ClassifyRetry, I: TakeOffer>(
     client: BakeryClient<X, Q, C, I>,
 ) -> (X, Q)
-    ensures outside { result.0 ≡ client.parts.outside }
-    ensures quota { result.1 ≡ client.parts.quota }
+    ensures outside { Chained X.makes client.parts.outside
+        (ending_choice client.parts.identities
+        ++ ending_calls client.parts.sleeps client.parts.call)
+        result.0 }
+    ensures quota { (emptied : RetryStrategy Q.Permit) × Closes (record {
+      meaning = Q.meaning;
+      permit_bucket = Q.permit_bucket;
+      permit_amount = Q.permit_amount;
+      limiters = limiters_by Q.Limiter.at Q.Limiter.after_acquire Q.Limiter.reply_to
+          Q.Limiter.after_update;
+    }) client.parts.strategy client.parts.quota emptied result.1 }
 {
+    let mut client = client;
+    client.parts.end_open();
+    client.close();
     let parts = client.parts;
     (parts.outside, parts.quota)
 }

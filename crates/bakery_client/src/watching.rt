@@ -3,7 +3,7 @@ ghost use Rattle.std.specs.Prelude.{◌≡◌, ◌<◌, ◌≤◌, ◌+◌, ◌^
 ghost use Rattle.bakery_client.specs.Waiting.{Asks, AsksFor, Says, WaitsBy, told};
 ghost use Rattle.bakery_model.specs.declared.model.OrderState.TheVariants.{Ready};
 ghost use Rattle.smithy_types.specs.declared.fault.FaultKind.TheVariants.{Other};
-ghost use Rattle.smithy_types.specs.declared.fault.SdkError.TheVariants.{ConstructionFailure};
+ghost use Rattle.smithy_types.specs.declared.fault.SdkError.TheVariants.{DispatchFailure};
 
 use crate::client::{BakeryClient, BakeryOperation, invoke};
 use bakery_model::{BakeryError, GetOrderInput, GetOrderOutput, OrderState};
@@ -95,6 +95,7 @@ impl<Q: Quota + Drop, C: ClassifyRetry, I: TakeOffer> Timers for Watch<Q, C, I> 
 
     fn ready(&mut self, sleep: u64) -> bool {
         if self.client.parts.outside.ready(sleep) {
+            self.client.parts.outside.give_up(sleep);
             return true;
         }
         self.unready = self.unready.saturating_add(1);
@@ -170,11 +171,11 @@ fn polled(
     }
 }
 
-// A failure that has nothing to do with the service.
+// A failure that has nothing to do with the service, told as one of dispatch.
 fn other(text: &'static str) -> SdkError<BakeryError>
-    ensures { result ≡ ConstructionFailure (record { kind = Other; text = text.now }) }
+    ensures { result ≡ DispatchFailure (record { kind = Other; text = text.now }) }
 {
-    SdkError::ConstructionFailure(Fault {
+    SdkError::DispatchFailure(Fault {
         kind: FaultKind::Other,
         text: Text::from_static(text),
     })

@@ -26,7 +26,7 @@ use run_print::print::print_run;
 use run_print::{Ending as RunEnding, RunHead};
 use scripted::ScriptedOutside;
 use scripted_service::{Row, service};
-use smithy_types::{OutOfMemory, SdkError, StopPoint, Text, TimeoutConfig, Timers, Wire};
+use smithy_types::{Fault, OutOfMemory, SdkError, StopPoint, Text, TimeoutConfig, Timers, Wire};
 use std::alloc::Global;
 use std::fmt::Display;
 use waiters::WaiterError;
@@ -243,14 +243,33 @@ fn fetch<Q: Quota + Drop, C: ClassifyRetry, I: TakeOffer>(
     tell(rt, watch.order.as_str(), watch.polls, seconds, &ending)
 }
 
-// Tells how the wait ended. A poll that had no answer says why in its fault.
+// Tells how the wait ended. A poll that failed says why in its fault, where it has one.
 fn tell(rt: &HostRuntime, order: &str, polls: u32, seconds: u64, ending: &Ending) -> Result<()> {
     match ending {
         Ok(_) => tell_ready(rt, order, polls, seconds),
-        Err(WaiterError::OperationFailed(SdkError::ConstructionFailure(fault))) => {
-            tell_refused(rt, order, polls, &fault.text)
-        }
-        Err(error) => tell_refused(rt, order, polls, error),
+        Err(error) => match fault_of_poll(error) {
+            Some(fault) => tell_refused(rt, order, polls, &fault.text),
+            None => tell_refused(rt, order, polls, error),
+        },
+    }
+}
+
+// The fault of the poll that ended the wait, where it failed with one.
+fn fault_of_poll<O, E>(error: &WaiterError<O, E>) -> Option<&Fault> {
+    match error {
+        WaiterError::OperationFailed(error) => fault_of(error),
+        _ => None,
+    }
+}
+
+// The fault of an operation's error. An error of the model has none.
+fn fault_of<E>(error: &SdkError<E>) -> Option<&Fault> {
+    match error {
+        SdkError::ConstructionFailure(fault)
+        | SdkError::TimeoutError(fault)
+        | SdkError::DispatchFailure(fault)
+        | SdkError::ResponseError(fault, _) => Some(fault),
+        SdkError::ServiceError(_, _) => None,
     }
 }
 
