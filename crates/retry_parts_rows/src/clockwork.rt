@@ -1,6 +1,5 @@
 //! An outside with a clock that is set by hand, one random word and no connector.
 
-use anyhow::Result as Told;
 use outside::{IdentityPoll, Outside, Polled, Sent};
 use smithy_context::Settings;
 use smithy_types::{HttpRequest, OutOfMemory, Timers};
@@ -41,7 +40,7 @@ impl Clockwork {
     }
 
     /// What was asked since this was last called, each behind a blank.
-    pub fn told(&mut self, alloc: Global) -> Told<String> {
+    pub fn told(&mut self, alloc: Global) -> anyhow::Result<String> {
         let asked = mem::replace(&mut self.asked, Vec::new(alloc));
         let mut text = String::new(alloc);
         for call in asked.iter() {

@@ -3,7 +3,6 @@
 use crate::clockwork::Clockwork;
 use crate::messages::{answer_text, request, response};
 use crate::standing::{NOTHING, PAID, PAID_AT_RANDOM, Standing, settings};
-use anyhow::Result as Told;
 use body_guard::stalled_stream::{
     StalledStreamProtectionInterceptor, StalledStreamProtectionInterceptorKind,
 };
@@ -259,7 +258,7 @@ fn answer(alloc: Global, row: &Row, client: &mut Hooked) -> Result<Answer, OutOf
     )
 }
 
-fn line(alloc: Global, row: &Row) -> Told<String> {
+fn line(alloc: Global, row: &Row) -> anyhow::Result<String> {
     let mut client = client(alloc, row)?;
     let text = answer_text(alloc, &answer(alloc, row, &mut client)?)?;
     let asked = client.outside.told(alloc)?;
@@ -267,7 +266,7 @@ fn line(alloc: Global, row: &Row) -> Told<String> {
 }
 
 /// Prints what the interceptors do at each hook.
-pub fn print(rt: &HostRuntime) -> Told<()> {
+pub fn print(rt: &HostRuntime) -> anyhow::Result<()> {
     for row in ROWS {
         let line = line(rt.alloc(), row)?;
         println!(rt; "Hook {:?}, {}: {line}", row.hook, row.name)?;

@@ -1,6 +1,5 @@
 //! Requests, responses and outcomes; and answers as texts.
 
-use anyhow::Result as Told;
 use run_grammar::Answer;
 use smithy_context::{HookAnswer, Layer, LayerEntry};
 use smithy_types::{
@@ -50,7 +49,7 @@ pub fn outcome(
 }
 
 /// An answer in short.
-pub fn answer_text(alloc: Global, answer: &Answer) -> Told<String> {
+pub fn answer_text(alloc: Global, answer: &Answer) -> anyhow::Result<String> {
     match answer {
         Answer::Failed(text) => Ok(format!(in alloc; "failed: {text}")?),
         Answer::Layer(layer) => layer_text(alloc, layer),
@@ -60,7 +59,7 @@ pub fn answer_text(alloc: Global, answer: &Answer) -> Told<String> {
 }
 
 // What a layer sets, each behind a blank.
-fn layer_text(alloc: Global, layer: &Layer) -> Told<String> {
+fn layer_text(alloc: Global, layer: &Layer) -> anyhow::Result<String> {
     let mut text = String::new(alloc);
     text.push_str("sets")?;
     for entry in layer.entries() {
@@ -69,7 +68,7 @@ fn layer_text(alloc: Global, layer: &Layer) -> Told<String> {
     Ok(text)
 }
 
-fn add(alloc: Global, text: &mut String, entry: &LayerEntry) -> Told<()> {
+fn add(alloc: Global, text: &mut String, entry: &LayerEntry) -> anyhow::Result<()> {
     if let Some(setting) = &entry.value {
         let setting = format!(in alloc; " {:?}", setting.get())?;
         text.push_str(&setting)?;
@@ -77,7 +76,7 @@ fn add(alloc: Global, text: &mut String, entry: &LayerEntry) -> Told<()> {
     Ok(())
 }
 
-fn hooked_text(alloc: Global, hooked: &HookAnswer) -> Told<String> {
+fn hooked_text(alloc: Global, hooked: &HookAnswer) -> anyhow::Result<String> {
     let settings = layer_text(alloc, &hooked.settings)?;
     let changes = hooked.change.is_some();
     match &hooked.failure {

@@ -4,7 +4,6 @@ use crate::clockwork::Clockwork;
 use crate::hooks::by_status;
 use crate::messages::{answer_text, outcome, request, response};
 use crate::standing::{Standing, settings};
-use anyhow::Result as Told;
 use client_service::ServiceError;
 use outside::Outside;
 use rate_limit::ClientRateLimiter;
@@ -176,12 +175,12 @@ fn close<Q: Quota>(strategy: &mut RetryStrategy<Q::Permit>, quota: &mut Q) -> Op
     sums_of(quota)
 }
 
-fn closed(alloc: Global, payer: &mut Payer) -> Told<String> {
+fn closed(alloc: Global, payer: &mut Payer) -> anyhow::Result<String> {
     let sums = close(&mut payer.strategy, &mut payer.quota);
     Ok(format!(in alloc; "{sums:?}")?)
 }
 
-fn told(alloc: Global, payer: &mut Payer, step: Step) -> Told<String> {
+fn told(alloc: Global, payer: &mut Payer, step: Step) -> anyhow::Result<String> {
     match step {
         Step::Initial(moment) => {
             payer.outside.moment = moment;
@@ -195,13 +194,13 @@ fn told(alloc: Global, payer: &mut Payer, step: Step) -> Told<String> {
     }
 }
 
-fn line(alloc: Global, payer: &mut Payer, step: Step) -> Told<String> {
+fn line(alloc: Global, payer: &mut Payer, step: Step) -> anyhow::Result<String> {
     let text = told(alloc, payer, step)?;
     let asked = payer.outside.told(alloc)?;
     Ok(format!(in alloc; "{step:?}: {text}; asked:{asked}")?)
 }
 
-fn print_row(rt: &HostRuntime, row: &Row) -> Told<()> {
+fn print_row(rt: &HostRuntime, row: &Row) -> anyhow::Result<()> {
     println!(rt; "attempts: {}", row.name)?;
     let mut payer = payer_of(rt.alloc(), row)?;
     for step in row.steps {
@@ -212,7 +211,7 @@ fn print_row(rt: &HostRuntime, row: &Row) -> Told<()> {
 }
 
 /// Prints what each client is answered, and what its outside is asked.
-pub fn print(rt: &HostRuntime, rows: &[Row]) -> Told<()> {
+pub fn print(rt: &HostRuntime, rows: &[Row]) -> anyhow::Result<()> {
     for row in rows {
         print_row(rt, row)?;
     }
