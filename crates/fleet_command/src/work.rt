@@ -85,10 +85,10 @@ fn make_told(
 ) -> Result<Told, OutOfMemory>
     ensures { IfOk result (λ told. (told.text ≡ text) × (outcome ≡ Ok told.outcome)) }
 {
-    match outcome {
-        Ok(outcome) => Ok(Told { text, outcome }),
-        Err(error) => Err(error),
-    }
+    Ok(Told {
+        text,
+        outcome: outcome?,
+    })
 }
 
 // Makes the invocations over the client, and prints them behind what is there.
