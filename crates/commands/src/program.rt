@@ -16,7 +16,7 @@ use std::thread::Threads;
 
 /// What a run of the program leaves.
 #[derive(Drop)]
-pub struct Left<I, O> {
+pub struct Finished<I, O> {
     /// How it ended.
     pub status: Status,
     /// The reader, and how many reads failed.
@@ -32,7 +32,7 @@ pub fn program<R: Threads + Wait + Sync, I: Read, O: Write>(
     words: &[Text],
     reader: I,
     writer: O,
-) -> Left<I, O>
+) -> Finished<I, O>
     ensures { Ran ⟦<StdSource<I> as Source>⟧.view ⟦<StdSink<O> as Sink>⟧.view (command_of words.now)
         result.status
         (record { reader = reader; errors = 0 }) result.source
@@ -41,7 +41,7 @@ pub fn program<R: Threads + Wait + Sync, I: Read, O: Write>(
     let mut source = StdSource::new(reader);
     let mut sink = StdSink::new(writer);
     let status = run(rt, alloc, words, &mut source, &mut sink);
-    Left {
+    Finished {
         status,
         source,
         sink,
