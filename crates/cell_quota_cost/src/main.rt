@@ -2,8 +2,7 @@
 //!
 //! The words are the form of the bucket, `cell`, `shared` or `plain`, the number of callers and the
 //! rounds of each. A round is two steps: an acquire, and then a release, or a reward where the
-//! acquire was refused. `plain` is a caller with a bucket of
-//! its own, in one thread.
+//! acquire was refused. `plain` is a caller with a bucket of its own, in one thread.
 #![tactic(auto)]
 
 mod form;
@@ -34,7 +33,8 @@ fn main(rt: HostRuntime) -> Result<()> {
         ..
     } = sums;
     println!(rt;
-        "{steps} steps, {granted} granted, {available} available, {held} held, {forgotten} forgotten"
+        "{steps} steps, {granted} granted, {available} available, {held} held, \
+        {forgotten} forgotten"
     )?;
     Ok(())
 }
