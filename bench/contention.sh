@@ -5,10 +5,10 @@
 # counts steps a second with 1, 2 and 4 callers in threads, by the clock on the wall, the best of
 # five runs each: other work on the machine changes it.
 top=$(cd "$(dirname "$0")/.." && pwd)
-program=$top/crates/cell_quota_cost/out/cell_quota_cost
+program=$top/crates/bench_quota/out/bench_quota
 rounds=${1:-1000000}
 
-[ -x "$program" ] || (cd "$top/crates/cell_quota_cost" && rt run) || exit 1
+[ -x "$program" ] || (cd "$top/crates/bench_quota" && rt run) || exit 1
 
 # The instructions of one caller with this form and so many rounds.
 instructions() {

@@ -3,9 +3,9 @@
 # 1000. Each delay is a turn of 23 calls. What the script costs is left out: it is the same with
 # fuel 0, where nothing is asked.
 top=$(cd "$(dirname "$0")/.." && pwd)
-program=$top/crates/orchestrate_cost/out/orchestrate_cost
+program=$top/crates/golden_engine/out/golden_engine
 
-[ -x "$program" ] || (cd "$top/crates/orchestrate_cost" && rt run) || exit 1
+[ -x "$program" ] || (cd "$top/crates/golden_engine" && rt run) || exit 1
 
 # The instructions of one run with these words.
 instructions() {

@@ -1,10 +1,10 @@
 #!/bin/sh
 # Counts the instructions of a limiter's calls, by callgrind: so many of them against none.
 top=$(cd "$(dirname "$0")/.." && pwd)
-program=$top/crates/rate_limit_cost/out/rate_limit_cost
+program=$top/crates/bench_limiter/out/bench_limiter
 count=${1:-100000}
 
-[ -x "$program" ] || (cd "$top/crates/rate_limit_cost" && rt run) || exit 1
+[ -x "$program" ] || (cd "$top/crates/bench_limiter" && rt run) || exit 1
 
 # The instructions of one run of this call, so often.
 instructions() {

@@ -5,7 +5,7 @@ with ample memory. So it does for the program of rows of kept identities, each o
 as with ample memory, or with a failure behind a front of its print. Prints a line for each example:
 the requests, and how many runs ended so and so.
 
-It wants the proved programs (./smithy_replay --prove; rt run in crates/identity_cell_rows) and gcc.
+It wants the proved programs (./smithy_replay --prove; rt run in crates/golden_identity) and gcc.
 """
 import pathlib
 import subprocess
@@ -14,7 +14,7 @@ import tempfile
 
 TOP = pathlib.Path(__file__).resolve().parent.parent
 PROGRAM = TOP / "crates/smithy_replay/out/smithy_replay"
-ROWS = TOP / "crates/identity_cell_rows/out/identity_cell_rows"
+ROWS = TOP / "crates/golden_identity/out/golden_identity"
 NO_MEMORY = 5
 EXAMPLES = [
     (["replay"], "examples/teapot.json"),

@@ -1,3 +1,9 @@
+pub mod ReadBack
+pub mod Visible
+pub mod OneByOne
+pub mod Characters
+pub mod Stored
+pub mod Rows
 pub mod Counting
 pub mod TextBytes
 pub mod Found

@@ -1,3 +1,5 @@
+pub mod Carried
+pub mod Lines
 pub mod JsonData
 pub mod View
 pub mod Bytes

@@ -1,9 +1,10 @@
-//! JSON without floats: values, texts, bytes, numbers, lists and names, as they are printed and
-//! read. What is printed of a thing is read as the same thing.
+//! JSON without floats, as it is printed and read. What is printed is read as the same.
 #![tactic(auto)]
 
 pub mod arena;
 pub mod forms;
+pub mod laws;
+pub mod lines;
 pub mod lists;
 pub mod members;
 mod numbers;
@@ -13,3 +14,6 @@ pub mod read;
 pub use crate::printing::{Json, Row};
 pub use arena::{Arena, Value};
 pub use read::ReadError;
+
+#[cfg(test)]
+mod tests;

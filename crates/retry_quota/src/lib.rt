@@ -3,6 +3,7 @@
 
 pub mod builder;
 pub mod error;
+pub mod free_limiter;
 pub mod laws;
 pub mod limiter;
 pub mod partition_table;

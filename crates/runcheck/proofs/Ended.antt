@@ -6,11 +6,11 @@ use Rattle.orchestrate.specs.declared.execution.InvokeError.TheVariants.{Sdk, Un
 use Rattle.run_grammar.specs.Laws.{EachFits, IsWhole, Begins}
 use Rattle.run_grammar.specs.Standing.{WellHanded, standing, start, starting}
 use Rattle.run_grammar.specs.declared.answer.Entry.{Entry}
-use Rattle.run_print.specs.Endings.{Ends, EndsBy, ending_of, error_ending, output_ending, stopped_by, stopped_ending_of}
-use Rattle.run_print.specs.Print.{run_text}
-use Rattle.run_print.specs.declared.ending.Ending.{Ending}
-use Rattle.run_print.specs.declared.ending.Ending.TheVariants as endings
-use Rattle.run_print.specs.declared.head.RunHead.{RunHead}
+use Rattle.json_print.specs.Endings.{Ends, EndsBy, ending_of, error_ending, output_ending, stopped_by, stopped_ending_of}
+use Rattle.json_print.specs.Print.{run_text}
+use Rattle.json_print.specs.declared.ending.Ending.{Ending}
+use Rattle.json_print.specs.declared.ending.Ending.TheVariants as endings
+use Rattle.json_print.specs.declared.head.RunHead.{RunHead}
 use Rattle.smithy_context.specs.declared.context.InterceptorContext.{InterceptorContext}
 use Rattle.smithy_types.specs.declared.fault.Outcome.{Outcome}
 use Rattle.smithy_types.specs.declared.fault.Outcome.TheVariants as outcomes

@@ -5,9 +5,9 @@ use Rattle.orchestrate.specs.Finish.{answer_by, answer_of, failure_of}
 use Rattle.orchestrate.specs.declared.execution.InvokeError.{InvokeError}
 use Rattle.orchestrate.specs.declared.execution.InvokeError.TheVariants.{Sdk, Unfinished, WrongType, OutOfMemory}
 use Rattle.run_grammar.specs.declared.standing.Standing.{Standing}
-use Rattle.run_print.specs.Endings.{ending_of, error_ending, stopped_by, stopped_ending_of}
-use Rattle.run_print.specs.declared.ending.Ending.{Ending}
-use Rattle.run_print.specs.declared.head.RunHead.{RunHead}
+use Rattle.json_print.specs.Endings.{ending_of, error_ending, stopped_by, stopped_ending_of}
+use Rattle.json_print.specs.declared.ending.Ending.{Ending}
+use Rattle.json_print.specs.declared.head.RunHead.{RunHead}
 use Rattle.smithy_context.specs.Failures.{is_failure}
 use Rattle.smithy_context.specs.declared.context.InterceptorContext.{InterceptorContext}
 use Rattle.smithy_types.specs.declared.fault.Outcome.TheVariants as outcomes
@@ -49,7 +49,7 @@ pub log_length : (cs : List Call) (s : Standing) → length (log_of s cs) ≡ le
 log_length [] s = refl
 log_length (c ∷ cs) s = ap (λ n. suc n) (log_length cs (after_call s c).context)
 
--- the endings that the code makes, by what `run_print` says of them
+-- the endings that the code makes, by what `json_print` says of them
 pub output_ended : {E : Type 0} (h : RunHead) (c : InterceptorContext) (p : Payload) (r : Result Ending E) → c.view.outcome ≡ Some (outcomes.Output p) → IfOk r (λ e. ending_of h (Ok p) ≡ Some e) →
     IfOk r (λ e. e ≡ ending_by h (answer_of c))
 unfolding ending_of

@@ -16,8 +16,8 @@ use Rattle.run_grammar.specs.declared.answer.Entry.{Entry}
 use Rattle.run_grammar.specs.declared.kind.Kind.{Kind}
 use Rattle.run_grammar.specs.declared.question.Question.{Question}
 use Rattle.run_grammar.specs.declared.standing.Standing.{Standing}
-use Rattle.run_reading.specs.Places.{position_of}
-use Rattle.run_reading.specs.declared.walk.Walk.{Walk}
+use Rattle.runcheck.specs.Reading.Places.{position_of}
+use Rattle.runcheck.specs.declared.reading.walk.Walk.{Walk}
 use Rattle.smithy_types.specs.declared.kinds.StopPoint.{StopPoint}
 use Rattle.smithy_types.specs.declared.payload.Payload.{Payload}
 use Rattle.runcheck.specs.Follow.{after_call, call_of, calls_of, entry_of, log_of}

@@ -6,3 +6,4 @@ pub mod ToldAnswers
 pub mod ToldPrints
 pub mod Ended
 pub mod LineByLine
+pub mod CheckSaying

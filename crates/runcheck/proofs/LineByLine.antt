@@ -5,7 +5,7 @@ use Rattle.std.specs.Str.Lines.{lines}
 use Rattle.serde_json.specs.Data.{Data}
 use Rattle.serde_json.specs.Read.{read}
 use Rattle.serde_json.specs.View.{items_of}
-use Rattle.json_back.specs.Lines.{each_read}
+use Rattle.json_forms.specs.Lines.{each_read}
 use Rattle.json_forms.specs.Lists.{list_of}
 use Rattle.json_forms.specs.Reading.{◌>>=◌, Fails, Reads}
 use Rattle.json_forms.specs.declared.read.ReadError.{ReadError}
@@ -14,7 +14,7 @@ use Rattle.json_forms.proofs.ReadLists.{behind, behind-nil}
 use Rattle.runcheck.specs.Told.{between, call_at, head_at, told_at, told_by}
 use Rattle.runcheck.specs.declared.told.Call.{Call}
 use Rattle.runcheck.specs.declared.told.Told.{Told}
-use Rattle.run_print.specs.declared.head.RunHead.{RunHead}
+use Rattle.json_print.specs.declared.head.RunHead.{RunHead}
 use Rattle.runcheck.proofs.Between.{between_read}
 
 abbrev pub Line : Type 0

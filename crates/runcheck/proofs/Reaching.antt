@@ -3,8 +3,8 @@ use Rattle.std.proofs.Common.{◌≡◌, ◌↔◌, ◌<◌, ◌≤◌, arith, �
 use Rattle.run_grammar.specs.Laws.{IsWhole}
 use Rattle.run_grammar.specs.Standing.{standing, start, starting}
 use Rattle.run_grammar.specs.declared.answer.Entry.{Entry}
-use Rattle.run_print.specs.Print.{run_text}
-use Rattle.run_print.specs.declared.head.RunHead.{RunHead}
+use Rattle.json_print.specs.Print.{run_text}
+use Rattle.json_print.specs.declared.head.RunHead.{RunHead}
 use Rattle.runcheck.specs.Follow.{calls_of, log_of}
 use Rattle.runcheck.specs.Reach.{IsPrintOf, Reach, whole_ending}
 use Rattle.runcheck.specs.Told.{IsTold, told_by}

@@ -19,14 +19,14 @@ use Rattle.smithy_types.specs.declared.fault.Outcome.{Outcome}
 use Rattle.smithy_types.specs.declared.fault.Outcome.TheVariants as outcomes
 use Rattle.smithy_types.specs.declared.hook.Hook.{Hook}
 use Rattle.smithy_types.specs.declared.hook.Hook.TheVariants as hooks
-use Rattle.value_json.specs.AnswerReadings.{answer_at, hook_answer_at, hooked_at, outcome_answer_at, streamed_at}
-use Rattle.value_json.specs.Names.{hook_text}
-use Rattle.value_json.specs.Readings.{change_at, failed_by, fault_at, outcome_at, plain_fault_at}
-use Rattle.value_json.specs.Spellable.{answer_spellable, change_spellable, fault_kind_spellable, hook_answer_spellable, layer_spellable, none_or, outcome_spellable}
-use Rattle.value_json.specs.Values.{answer_data, change_data, fault_data, fault_parts, hook_answer_data, outcome_data}
-use Rattle.value_json.proofs.PrintedAnswers.{answer_read}
-use Rattle.value_json.proofs.PrintedForms.{optional_text_read}
-use Rattle.value_json.proofs.PrintedLayers.{layer_read}
+use Rattle.json_values.specs.AnswerReadings.{answer_at, hook_answer_at, hooked_at, outcome_answer_at, streamed_at}
+use Rattle.json_values.specs.Names.{hook_text}
+use Rattle.json_values.specs.Readings.{change_at, failed_by, fault_at, outcome_at, plain_fault_at}
+use Rattle.json_values.specs.Spellable.{answer_spellable, change_spellable, fault_kind_spellable, hook_answer_spellable, layer_spellable, none_or, outcome_spellable}
+use Rattle.json_values.specs.Values.{answer_data, change_data, fault_data, fault_parts, hook_answer_data, outcome_data}
+use Rattle.json_values.proofs.PrintedAnswers.{answer_read}
+use Rattle.json_values.proofs.PrintedForms.{optional_text_read}
+use Rattle.json_values.proofs.PrintedLayers.{layer_read}
 use Rattle.runcheck.specs.Carried.{answer_tellable, change_tellable, fault_tellable, hook_answer_tellable, outcome_tellable}
 use Rattle.runcheck.specs.Failing.{failing_answer_at, failing_hook_at, hook_at, hook_failure_at, hook_fault_at, hook_outcome_at, told_answer_at}
 

@@ -2,8 +2,8 @@
 use Rattle.std.proofs.Common.{◌≡◌, ℕ, ◌+◌, ◌-◌, List, [], ◌∷◌, ◌++◌, true, Some, None, refl, ap, ap₂, append_assoc, sym, ◌∙◌}
 use Rattle.std.proofs.lemmas.Bool.{and_parts}
 use Rattle.std.proofs.lemmas.List.{append-nil}
-use Rattle.json_back.proofs.OneByOne.{joined_lines, read_lines-lines_text}
-use Rattle.json_back.specs.Lines.{lines_text, read_lines}
+use Rattle.json_forms.proofs.OneByOne.{joined_lines, read_lines-lines_text}
+use Rattle.json_forms.specs.Lines.{lines_text, read_lines}
 use Rattle.json_forms.specs.Forms.{word_at}
 use Rattle.json_forms.specs.Lists.{list_of}
 use Rattle.json_forms.specs.Reading.{◌>>=◌}
@@ -11,17 +11,17 @@ use Rattle.run_grammar.specs.Entry.{kind_of}
 use Rattle.run_grammar.specs.Fits.{fits}
 use Rattle.run_grammar.specs.Laws.{EachFits}
 use Rattle.run_grammar.specs.declared.answer.Entry.{Entry}
-use Rattle.run_print.specs.Print.{begin_data, ending_data, entries_data, entries_text, entry_data, line, run_data, run_text}
-use Rattle.run_print.specs.declared.ending.Ending.{Ending}
-use Rattle.run_print.specs.declared.head.RunHead.{RunHead}
+use Rattle.json_print.specs.Print.{begin_data, ending_data, entries_data, entries_text, entry_data, line, run_data, run_text}
+use Rattle.json_print.specs.declared.ending.Ending.{Ending}
+use Rattle.json_print.specs.declared.head.RunHead.{RunHead}
 use Rattle.serde_json.specs.Data.{string}
 use Rattle.serde_json.specs.View.{items_of}
 use Rattle.smithy_types.specs.declared.kinds.StopPoint.{StopPoint}
 use Rattle.smithy_types.specs.declared.kinds.StopPoint.TheVariants as stops
-use Rattle.value_json.specs.Names.{stop_text}
-use Rattle.value_json.specs.Spellable.{payload_spellable}
-use Rattle.value_json.proofs.PrintedHeads.{payload_read}
-use Rattle.value_json.proofs.PrintedNames.{kind_read}
+use Rattle.json_values.specs.Names.{stop_text}
+use Rattle.json_values.specs.Spellable.{payload_spellable}
+use Rattle.json_values.proofs.PrintedHeads.{payload_read}
+use Rattle.json_values.proofs.PrintedNames.{kind_read}
 use Rattle.runcheck.specs.Carried.{IsCarried, answer_tellable, answers_tellable}
 use Rattle.runcheck.specs.Follow.{call_of, calls_of}
 use Rattle.runcheck.specs.Told.{IsTold, call_at, head_at, stop_at, told_at, told_by}

@@ -1,13 +1,13 @@
 -- Which runs a text carries.
 use Rattle.std.specs.Prelude.{◌≡◌, List, Bool, true, ◌&&◌, IsUtf8}
 use Rattle.std.specs.List.{list_all}
-use Rattle.json_back.specs.Lines.{are_readable}
+use Rattle.json_forms.specs.Lines.{are_readable}
 use Rattle.run_grammar.specs.declared.answer.Answer.{Answer}
 use Rattle.run_grammar.specs.declared.answer.Answer.TheVariants as answers
 use Rattle.run_grammar.specs.declared.answer.Entry.{Entry}
-use Rattle.run_print.specs.Print.{run_data, run_text}
-use Rattle.run_print.specs.declared.ending.Ending.{Ending}
-use Rattle.run_print.specs.declared.head.RunHead.{RunHead}
+use Rattle.json_print.specs.Print.{run_data, run_text}
+use Rattle.json_print.specs.declared.ending.Ending.{Ending}
+use Rattle.json_print.specs.declared.head.RunHead.{RunHead}
 use Rattle.smithy_context.specs.declared.intercept.Change.{Change}
 use Rattle.smithy_context.specs.declared.intercept.Change.TheVariants as changes
 use Rattle.smithy_context.specs.declared.intercept.HookAnswer.{HookAnswer}
@@ -15,7 +15,7 @@ use Rattle.smithy_types.specs.declared.fault.FaultKind.{FaultKind}
 use Rattle.smithy_types.specs.declared.fault.FaultKind.TheVariants as faults
 use Rattle.smithy_types.specs.declared.fault.Outcome.{Outcome}
 use Rattle.smithy_types.specs.declared.fault.Outcome.TheVariants as outcomes
-use Rattle.value_json.specs.Spellable.{answer_spellable, change_spellable, fault_kind_spellable, layer_spellable, none_or, payload_spellable}
+use Rattle.json_values.specs.Spellable.{answer_spellable, change_spellable, fault_kind_spellable, layer_spellable, none_or, payload_spellable}
 
 -- a failure that a script may write, or one of a hook
 unfoldable pub fault_tellable : FaultKind → Bool

@@ -15,10 +15,10 @@ use Rattle.run_grammar.specs.declared.kind.Kind.TheVariants as kinds
 use Rattle.json_forms.specs.Forms.{named, optional_at, tagged_at, word_at}
 use Rattle.json_forms.specs.Plain.{triple_at, quadruple_at}
 use Rattle.json_forms.specs.Reading.{◌>>=◌}
-use Rattle.value_json.specs.AnswerReadings.{answer_at}
-use Rattle.value_json.specs.Names.{all_hooks, hook_text}
-use Rattle.value_json.specs.Readings.{failed_by}
-use Rattle.value_json.specs.SettingReadings.{layer_at}
+use Rattle.json_values.specs.AnswerReadings.{answer_at}
+use Rattle.json_values.specs.Names.{all_hooks, hook_text}
+use Rattle.json_values.specs.Readings.{failed_by}
+use Rattle.json_values.specs.SettingReadings.{layer_at}
 
 unfoldable pub hook_at : Data → Option Hook
 hook_at d = as_str d >>= named hook_text all_hooks

@@ -3,11 +3,11 @@ use Rattle.std.specs.Prelude.{ℕ, ◌≡◌, List, []}
 use Rattle.run_grammar.specs.Laws.{EachFits}
 use Rattle.run_grammar.specs.Standing.{standing, start}
 use Rattle.run_grammar.specs.declared.answer.Entry.{Entry}
-use Rattle.run_print.specs.Endings.{Ends}
-use Rattle.run_print.specs.Print.{run_text}
-use Rattle.run_print.specs.declared.ending.Ending.{Ending}
-use Rattle.run_print.specs.declared.ending.Ending.TheVariants as endings
-use Rattle.run_print.specs.declared.head.RunHead.{RunHead}
+use Rattle.json_print.specs.Endings.{Ends}
+use Rattle.json_print.specs.Print.{run_text}
+use Rattle.json_print.specs.declared.ending.Ending.{Ending}
+use Rattle.json_print.specs.declared.ending.Ending.TheVariants as endings
+use Rattle.json_print.specs.declared.head.RunHead.{RunHead}
 use Rattle.runcheck.specs.Carried.{IsCarried}
 use Rattle.runcheck.specs.Follow.{calls_of}
 use Rattle.runcheck.specs.Reach.{IsPrintOf, Reach, whole_ending}

@@ -1,3 +1,4 @@
+pub mod Reading
 pub mod Failing
 pub mod Told
 pub mod Follow
@@ -5,3 +6,4 @@ pub mod Taken
 pub mod Reach
 pub mod Carried
 pub mod Laws
+pub mod Check

@@ -4,10 +4,10 @@ use Rattle.orchestrate.specs.Finish.{answer_of, failure_of}
 use Rattle.run_grammar.specs.Laws.{IsWhole}
 use Rattle.run_grammar.specs.Standing.{standing, start}
 use Rattle.run_grammar.specs.declared.answer.Entry.{Entry}
-use Rattle.run_print.specs.Endings.{error_ending, output_ending, stopped_by}
-use Rattle.run_print.specs.Print.{run_text}
-use Rattle.run_print.specs.declared.ending.Ending.{Ending}
-use Rattle.run_print.specs.declared.head.RunHead.{RunHead}
+use Rattle.json_print.specs.Endings.{error_ending, output_ending, stopped_by}
+use Rattle.json_print.specs.Print.{run_text}
+use Rattle.json_print.specs.declared.ending.Ending.{Ending}
+use Rattle.json_print.specs.declared.head.RunHead.{RunHead}
 use Rattle.smithy_context.specs.Failures.{is_failure}
 use Rattle.smithy_context.specs.declared.context.InterceptorContext.{InterceptorContext}
 use Rattle.smithy_types.specs.declared.fault.SdkError.{SdkError}

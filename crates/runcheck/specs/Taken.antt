@@ -4,8 +4,8 @@ use Rattle.run_grammar.specs.Fits.{fits}
 use Rattle.run_grammar.specs.Machine.{Asks, next}
 use Rattle.run_grammar.specs.declared.answer.Entry.{Entry}
 use Rattle.run_grammar.specs.declared.standing.Standing.{Standing}
-use Rattle.run_reading.specs.Places.{position_of}
-use Rattle.run_reading.specs.declared.walk.Walk.{Walk}
+use Rattle.runcheck.specs.Reading.Places.{position_of}
+use Rattle.runcheck.specs.declared.reading.walk.Walk.{Walk}
 use Rattle.runcheck.specs.Follow.{after_call, entry_of}
 use Rattle.runcheck.specs.declared.told.Call.{Call}
 

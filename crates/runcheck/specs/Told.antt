@@ -1,18 +1,18 @@
 -- What the lines of a text tell of a run.
 use Rattle.std.specs.Prelude.{ℕ, ◌≡◌, ◌-◌, List, [], ◌∷◌, Option, Some, None, codes, drop, length, nat_lt, take, IsUtf8, if◌then◌else◌}
-use Rattle.json_back.specs.Lines.{read_lines}
+use Rattle.json_forms.specs.Lines.{read_lines}
 use Rattle.json_forms.specs.Forms.{named, word_at}
 use Rattle.json_forms.specs.Lists.{list_of}
 use Rattle.json_forms.specs.Plain.{number_at, sextuple_at}
 use Rattle.json_forms.specs.Reading.{◌>>=◌}
-use Rattle.run_print.specs.declared.head.RunHead.{RunHead}
+use Rattle.json_print.specs.declared.head.RunHead.{RunHead}
 use Rattle.serde_json.specs.Data.{Data, Items, no_items, item}
 use Rattle.serde_json.specs.Find.{as_array, as_str}
 use Rattle.serde_json.specs.View.{items_of}
 use Rattle.smithy_types.specs.declared.kinds.StopPoint.{StopPoint}
-use Rattle.value_json.specs.AnswerReadings.{kind_at}
-use Rattle.value_json.specs.Names.{stop_text, stop_points}
-use Rattle.value_json.specs.Readings.{payload_at}
+use Rattle.json_values.specs.AnswerReadings.{kind_at}
+use Rattle.json_values.specs.Names.{stop_text, stop_points}
+use Rattle.json_values.specs.Readings.{payload_at}
 use Rattle.runcheck.specs.Failing.{told_answer_at}
 use Rattle.runcheck.specs.declared.told.Call.{Call}
 use Rattle.runcheck.specs.declared.told.Told.{Told}

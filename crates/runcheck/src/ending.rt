@@ -1,14 +1,14 @@
 //! The answer of a whole run, by the context at its end. It is worked out here; the engine gives
 //! the ending of an outcome, and the failure of a run that has none.
 ghost use Rattle.std.specs.Prelude.{◌≡◌, IfOk};
-ghost use Rattle.run_print.specs.Endings.{error_ending};
+ghost use Rattle.json_print.specs.Endings.{error_ending};
 ghost use Rattle.smithy_context.specs.Failures.{sdk_error_of};
 ghost use Rattle.smithy_types.specs.declared.kinds.StopPoint.TheVariants as stops;
 ghost use Rattle.runcheck.specs.Reach.{ending_at, whole_ending};
 
 use orchestrate::InvokeError;
 use orchestrate::finish::{ending, no_outcome};
-use run_print::{Ending, RunHead};
+use json_print::{Ending, RunHead};
 use smithy_context::InterceptorContext;
 use smithy_types::{Fault, HttpResponse, OutOfMemory, Outcome, Phase, StopPoint};
 
@@ -48,7 +48,7 @@ fn at_the_stop(head: &RunHead, context: InterceptorContext) -> Result<Ending, Ou
 }
 
 // The answer of a failure in this phase.
-#[tactic(auto, unfolding(run_print::specs::Endings::ending_of))]
+#[tactic(auto, unfolding(json_print::specs::Endings::ending_of))]
 fn failed(
     head: &RunHead,
     fault: Fault,

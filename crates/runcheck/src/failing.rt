@@ -3,7 +3,7 @@ ghost use Rattle.std.specs.Prelude.{◌≡◌};
 ghost use Rattle.json_forms.specs.Reading.{Reads};
 ghost use Rattle.json_forms.specs.Forms.{named};
 ghost use Rattle.json_forms.specs.View.{view};
-ghost use Rattle.value_json.specs.Names.{all_hooks, hook_text};
+ghost use Rattle.json_values.specs.Names.{all_hooks, hook_text};
 ghost use Rattle.runcheck.specs.Failing.{failing_answer_at, failing_hook_at, hook_at};
 ghost use Rattle.runcheck.specs.Failing.{hook_failure_at, hook_fault_at, hook_outcome_at};
 ghost use Rattle.runcheck.specs.Failing.{told_answer_at};
@@ -14,9 +14,9 @@ use run_grammar::{Answer, Kind};
 use smithy_context::{Change, HookAnswer};
 use smithy_types::{Fault, FaultKind, Hook, Outcome, Shared};
 use std::alloc::Global;
-use value_json::answer::read_answer;
-use value_json::names::hook_name;
-use value_json::setting::read_layer;
+use json_values::answer::read_answer;
+use json_values::names::hook_name;
+use json_values::setting::read_layer;
 
 const ALL_HOOKS: [Hook; 20] = [
     Hook::ReadBeforeExecutionClient,

@@ -4,15 +4,15 @@ ghost use Rattle.run_grammar.specs.Fits.{fits};
 ghost use Rattle.run_grammar.specs.Laws.{IsWhole};
 ghost use Rattle.run_grammar.specs.Machine.{Asks};
 ghost use Rattle.run_grammar.specs.Standing.{standing, start, starting};
-ghost use Rattle.run_reading.specs.Places.{position_of};
+ghost use Rattle.runcheck.specs.Reading.Places.{position_of};
 ghost use Rattle.runcheck.specs.Follow.{after_call, entry_of, log_of};
 ghost use Rattle.runcheck.specs.Taken.{Taken};
 
 use crate::told::Call;
 use run_grammar::laws::runs_are_accepted;
 use run_grammar::{Entry, Standing, StopPoint};
-use run_reading::grammar::run;
-use run_reading::walk::{Seen, Walk};
+use crate::reading::grammar::run;
+use crate::reading::walk::{Seen, Walk};
 use smithy_types::{OutOfMemory, Payload};
 use std::alloc::Global;
 

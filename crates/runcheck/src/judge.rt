@@ -1,7 +1,7 @@
 //! Whether a text is the print of a whole run.
 ghost use Rattle.std.specs.Prelude.{◌≡◌, ◌↔◌, true, IfOk};
 ghost use Rattle.run_grammar.specs.Standing.{starting};
-ghost use Rattle.run_print.specs.Print.{run_text};
+ghost use Rattle.json_print.specs.Print.{run_text};
 ghost use Rattle.runcheck.specs.Follow.{log_of};
 ghost use Rattle.runcheck.specs.Reach.{IsPrintOf, Reach, whole_ending};
 ghost use Rattle.runcheck.specs.declared.judge.Verdict.TheVariants.{Yes};
@@ -10,8 +10,8 @@ use crate::ending::whole_ending;
 use crate::follow::{Followed, follow};
 use crate::told::{Told, read_told};
 use json_forms::ReadError;
-use run_print::RunHead;
-use run_print::print::print_run;
+use json_print::RunHead;
+use json_print::print::print_run;
 use smithy_types::OutOfMemory;
 use std::alloc::Global;
 

@@ -2,11 +2,13 @@
 //! line, its calls are followed along the grammar, and what they come to is printed again.
 #![tactic(auto)]
 
+pub mod command;
 pub mod ending;
 pub mod failing;
 pub mod follow;
 pub mod judge;
 pub mod laws;
+pub mod reading;
 pub mod told;
 
 pub use judge::{Verdict, check};

@@ -3,7 +3,7 @@ ghost use Rattle.std.specs.Prelude.{◌≡◌, IfOk, IsErrOf, Some, map};
 ghost use Rattle.std.specs.Prelude.{option_and_then, option_map, true};
 ghost use Rattle.serde_json.specs.Read.{read};
 ghost use Rattle.serde_json.specs.View.{items_of};
-ghost use Rattle.json_back.specs.Lines.{each_read};
+ghost use Rattle.json_forms.specs.Lines.{each_read};
 ghost use Rattle.json_forms.specs.Lists.{list_of};
 ghost use Rattle.json_forms.specs.Reading.{Gives, Reads};
 ghost use Rattle.json_forms.specs.View.{items_view, view};
@@ -11,17 +11,17 @@ ghost use Rattle.runcheck.specs.Told.{IsTold, call_at, head_at, stop_at};
 ghost use Rattle.runcheck.specs.Told.{told_at, told_by, told_parts};
 
 use crate::failing::read_told_answer;
-use json_back::lines::lines_of;
+use json_forms::lines::lines_of;
 use json_forms::forms::read_word;
 use json_forms::read::Item;
 use json_forms::{Arena, ReadError, Value, read};
 use run_grammar::{Answer, Kind, StopPoint};
-use run_print::RunHead;
+use json_print::RunHead;
 use smithy_types::List;
 use std::alloc::Global;
-use value_json::answer::read_kind;
-use value_json::http::read_payload;
-use value_json::names::stop_named;
+use json_values::answer::read_kind;
+use json_values::http::read_payload;
+use json_values::names::stop_named;
 
 /// A call, as its line tells it.
 #[derive(Drop)]

@@ -1,8 +1,8 @@
 //! Runs a command of the command line over standard input and standard output.
 #![tactic(auto)]
 
-use commands::program::program;
-use shell::status::Status;
+use cli_commands::program::program;
+use cli_shell::status::Status;
 use smithy_types::{List, Text};
 use std::process::ExitCode;
 use std::{env, io};

@@ -1,5 +1,0 @@
-use Rattle.auth_parts.proofs.PickedOnes.{refused_among}
-use Rattle.auth_parts.proofs.choose.pick_among.Goals as goal
-
-pub returns-in-Err : goal.returns-in-Err
-returns-in-Err c = refused_among _ _ c.choose.result c.in-Err.error c.refused.result c.in-Err.is c.refused.ensures (rw c.lent.ensures at c.choose.ensures.refused)

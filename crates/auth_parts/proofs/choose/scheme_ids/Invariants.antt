@@ -1,6 +1,0 @@
-use Rattle.std.proofs.Common.{◌≡◌, map, take}
-use Rattle.auth_parts.proofs.choose.scheme_ids.Given as goal
-
--- the ids of those before the index
-abbrev pub invariant-loop-scheme : goal.invariant-loop-scheme
-invariant-loop-scheme g l = l.ids ≡ map g.A.AuthScheme.names (take l.scheme-index l.schemes)

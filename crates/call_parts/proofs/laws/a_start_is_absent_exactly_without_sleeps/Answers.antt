@@ -1,5 +1,0 @@
-use Rattle.call_parts.proofs.CauseProofs.{absent_without_sleeps}
-use Rattle.call_parts.proofs.laws.a_start_is_absent_exactly_without_sleeps.Goals as goal
-
-pub returns : goal.returns
-returns c = absent_without_sleeps

@@ -1,5 +1,0 @@
-use Rattle.call_parts.proofs.CauseProofs.{pends_with_the_poll}
-use Rattle.call_parts.proofs.laws.a_transmit_is_pending_only_with_its_poll.Goals as goal
-
-pub returns : goal.returns
-returns c = pends_with_the_poll

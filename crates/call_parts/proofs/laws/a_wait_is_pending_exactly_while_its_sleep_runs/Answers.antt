@@ -1,5 +1,0 @@
-use Rattle.call_parts.proofs.CauseProofs.{pending_while_it_runs}
-use Rattle.call_parts.proofs.laws.a_wait_is_pending_exactly_while_its_sleep_runs.Goals as goal
-
-pub returns : goal.returns
-returns c = pending_while_it_runs

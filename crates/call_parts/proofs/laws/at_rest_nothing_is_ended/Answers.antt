@@ -1,5 +1,0 @@
-use Rattle.call_parts.proofs.CauseProofs.{nothing_to_end}
-use Rattle.call_parts.proofs.laws.at_rest_nothing_is_ended.Goals as goal
-
-pub returns : goal.returns
-returns c = nothing_to_end

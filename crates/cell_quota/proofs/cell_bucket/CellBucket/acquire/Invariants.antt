@@ -1,5 +1,0 @@
-use Rattle.retry_quota.specs.History.{Acquire}
-use Rattle.cell_quota.proofs.cell_bucket.CellBucket.acquire.Given as goal
-
-abbrev pub ghosts-make : goal.ghosts-make
-ghosts-make g a = record { step = Acquire a.call.now.kind a.call.now.now_secs }

@@ -1,5 +1,0 @@
-use Rattle.retry_quota.specs.History.{Convert}
-use Rattle.cell_quota.proofs.cell_bucket.CellBucket.is_empty.Given as goal
-
-abbrev pub ghosts-make : goal.ghosts-make
-ghosts-make g a = record { step = Convert }

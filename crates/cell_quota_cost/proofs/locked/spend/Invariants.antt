@@ -1,4 +1,0 @@
-use Rattle.cell_quota_cost.proofs.locked.spend.Given as goal
-
-abbrev pub ghosts-spend_by_ledger : goal.ghosts-spend_by_ledger
-ghosts-spend_by_ledger g a = record { name = a.blank.name; parts = a.blank.parts }

@@ -1,0 +1,8 @@
+pub mod Means
+pub mod Opening
+pub mod Tally
+pub mod Report
+pub mod Client
+pub mod Runs
+pub mod Service
+pub mod Scripted

@@ -1,0 +1,4 @@
+pub mod Saying
+pub mod Spelling
+pub mod Determined
+pub mod Reached

@@ -1,0 +1,13 @@
+-- What is said of a script is said of its bytes.
+use Rattle.std.proofs.Common.{ℕ, List, ◌≡◌, true}
+use Rattle.cli_shell.specs.Said.{Said, prints, refuses}
+use Rattle.cli_shell.specs.declared.status.Refusal.TheVariants as refusals
+use Rattle.cli_replay.specs.Script.Replay.{IsScript, script_spellable}
+use Rattle.cli_replay.specs.declared.script.replay.Script.{Script}
+use Rattle.cli_replay.specs.Replay.{replay_says, script_says}
+
+pub script_said : (bytes : List ℕ) (s : Script) (x : Said) → IsScript bytes s → script_spellable s ≡ true → script_says s x → replay_says bytes x
+script_said bytes s (prints outcome text) i p h = (s, i, p, h)
+script_said bytes s (refuses refusals.TooLarge) i p h = (s, i, h)
+script_said bytes s (refuses refusals.BadScript) i p h = absurd h
+script_said bytes s (refuses refusals.NotBuilt) i p h = absurd h

@@ -1,0 +1,9 @@
+pub mod Counting
+pub mod Makes
+pub mod Polls
+pub mod Endings
+pub mod Print
+pub mod Wait
+pub mod Walk
+pub mod Script
+pub mod States

@@ -1,0 +1,21 @@
+//! The command `wait`: timers that follow a script, its script, and its print.
+#![tactic(auto)]
+
+pub mod command;
+pub mod ending;
+pub mod notes;
+pub mod operation;
+pub mod polls;
+pub mod print;
+pub mod script;
+pub mod scripted_timers;
+pub mod states;
+pub mod walk;
+
+pub use notes::{Note, Notes};
+pub use operation::{ask, state_of};
+pub use polls::{PollResult, PolledValue, ScriptedPoll};
+pub use scripted_timers::ScriptedTimers;
+pub use script::{WaitScript, is_within, read_polls, read_script};
+pub use command::WaitCommand;
+pub use ending::WaitEnding;

@@ -1,0 +1,4 @@
+pub mod Fleet
+pub mod Print
+pub mod Waiters
+pub mod Script

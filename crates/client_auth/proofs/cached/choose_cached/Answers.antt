@@ -1,0 +1,14 @@
+use Rattle.std.proofs.Common.{refl}
+use Rattle.client_auth.specs.declared.choose.Picked.TheVariants.{Refused}
+use Rattle.client_auth.proofs.cached.choose_cached.Goals as goal
+
+pub returns-in-Refused : goal.returns-in-Refused
+returns-in-Refused g c = (
+  _,
+  refl,
+  record {
+    picked = Refused c.in-Refused.text;
+    picks = rw (c.in_ok-before.ensures, c.in-Refused.is) at c.in_ok-id.ensures;
+    goes_on = (refl, refl, refl, refl, refl, refl);
+  },
+)

@@ -1,0 +1,22 @@
+use Rattle.std.proofs.Common.{refl}
+use Rattle.smithy_types.proofs.ChainLemmas.{chained_join}
+use Rattle.client_auth.specs.declared.cached.Opened.TheVariants as opened
+use Rattle.client_auth.proofs.cached.resolve_cached.Goals as goal
+
+pub returns-in_ok-answer-in-Load : goal.returns-in_ok-answer-in-Load
+returns-in_ok-answer-in-Load g c =
+    let looked = c.in_ok-identity.ensures in
+    let goes = c.in_ok-answer-in-Load.ensures in (
+      _,
+      chained_join g.X.Outside.makes _ _ _ _ _ looked.1 goes.1,
+      record {
+        found = opened.Load;
+        cache_looked = c.open_load.new.cache;
+        open_looked = c.open_load.new.current;
+        looking = looked.0;
+        opens = rw c.in-Load.is at looked.2;
+        answering = goes.0;
+        answered = goes.2;
+        calls_are = refl;
+      },
+    )

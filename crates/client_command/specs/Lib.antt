@@ -1,5 +1,0 @@
-pub mod Means
-pub mod Opening
-pub mod Tally
-pub mod Report
-pub mod Client

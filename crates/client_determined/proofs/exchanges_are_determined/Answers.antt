@@ -1,6 +1,0 @@
-use Rattle.retry_quota.specs.Calls.{limiters_by}
-use Rattle.client_determined.proofs.Served.{exchanges_once}
-use Rattle.client_determined.proofs.exchanges_are_determined.Goals as goal
-
-pub returns : goal.returns
-returns g c = exchanges_once _ _ (limiters_by g.L.Limiter.at g.L.Limiter.after_acquire g.L.Limiter.reply_to g.L.Limiter.after_update) _

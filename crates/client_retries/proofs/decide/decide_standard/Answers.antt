@@ -1,0 +1,47 @@
+use Rattle.std.proofs.Common.{refl}
+use Rattle.smithy_types.proofs.ChainLemmas.{chained_more}
+use Rattle.client_retries.proofs.BucketStays.{in_force}
+use Rattle.client_retries.proofs.decide.decide_standard.Goals as goal
+
+pub sums_in_force-requires : goal.sums_in_force-requires
+sums_in_force-requires g c =
+    let made = rw c.in-Some.is at c.in_ok-decision.ensures in
+    in_force _ _ _ _ _ _ _ _ _ _ _ (rw made at c.should_attempt_retry-decided.ensures.decides)
+
+pub returns-in-Some : goal.returns-in-Some
+returns-in-Some g c =
+    let made = rw c.in-Some.is at c.in_ok-decision.ensures in
+    let decides = rw made at c.should_attempt_retry-decided.ensures.decides in (
+      _,
+      chained_more g.X.Outside.makes _ _ _ _ _ c.present-moment.ensures.calls c.word-word.ensures,
+      record {
+        now = c.present-moment.result;
+        word = c.word-word.result;
+        known = c.present-moment.ensures.known;
+        calls_are = refl;
+        decides = (
+          c.in-Some.decision,
+          rw (c.settings-settings.ensures, c.run_each-verdict.ensures) at decides,
+          c.paused.ensures,
+          rw (c.sums_in_force.ensures, c.settings-settings.ensures, c.run_each-verdict.ensures) refl,
+        );
+      },
+    )
+
+pub returns-in-None : goal.returns-in-None
+returns-in-None g c =
+    let missing = rw c.in-None.is at c.in_ok-decision.ensures in (
+      _,
+      chained_more g.X.Outside.makes _ _ _ _ _ c.present-moment.ensures.calls c.word-word.ensures,
+      record {
+        now = c.present-moment.result;
+        word = c.word-word.result;
+        known = c.present-moment.ensures.known;
+        calls_are = refl;
+        decides = (
+          (rw c.settings-settings.ensures at c.should_attempt_retry-decided.ensures.missing).0 missing,
+          rw missing at c.should_attempt_retry-decided.ensures.slot,
+          rw missing at c.should_attempt_retry-decided.ensures.kept,
+        );
+      },
+    )

@@ -1,8 +1,0 @@
-use Rattle.client_runs_determined.proofs.Parts.{own_alike, plain}
-use Rattle.client_runs_determined.proofs.scripted_clients_are_plain.Goals as goal
-
-pub returns-clause-clients : goal.returns-clause-clients
-returns-clause-clients g c = plain _ _
-
-pub returns-clause-own_interceptors : goal.returns-clause-own_interceptors
-returns-clause-own_interceptors g c = own_alike

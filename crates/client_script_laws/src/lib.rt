@@ -1,4 +1,0 @@
-//! Laws of scripts with clients: what a text must not have to be one.
-#![tactic(auto)]
-
-pub mod laws;

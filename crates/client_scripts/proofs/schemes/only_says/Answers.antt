@@ -1,6 +1,0 @@
-use Rattle.std.proofs.Common.{sym}
-use Rattle.client_scripts.proofs.Alone.{not_alone}
-use Rattle.client_scripts.proofs.schemes.only_says.Goals as goal
-
-pub returns-then-items-ne1 : goal.returns-then-items-ne1
-returns-then-items-ne1 c = sym (not_alone c.args.word.now c.args.items.now c.if-items-ne1.true)

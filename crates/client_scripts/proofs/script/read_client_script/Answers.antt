@@ -1,6 +1,0 @@
-use Rattle.json_forms.specs.View.{view}
-use Rattle.client_scripts.proofs.Placed.{placed_reading}
-use Rattle.client_scripts.proofs.script.read_client_script.Goals as goal
-
-pub returns-clause-placed : goal.returns-clause-placed
-returns-clause-placed c = placed_reading c.script_in.result (view c.in_ok-value.value) c.script_in.ensures

@@ -1,5 +1,0 @@
-use Rattle.commands.proofs.Determined.{each_script_is_replayed}
-use Rattle.commands.proofs.laws.scripts_are_replayed.Goals as goal
-
-pub returns : goal.returns
-returns g c = each_script_is_replayed g.K.Sink.view

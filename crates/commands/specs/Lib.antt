@@ -1,5 +1,0 @@
-pub mod Words
-pub mod Check
-pub mod Replay
-pub mod Run
-pub mod Laws

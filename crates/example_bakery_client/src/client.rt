@@ -1,0 +1,145 @@
+//! The client of an operation: what it is built of, and how it is invoked. X is what lies outside
+//! of it, Q the quota that retries are paid from, C a classifier of retries and I an interceptor.
+ghost use Rattle.std.specs.List.{AllByRecursion};
+ghost use Rattle.std.specs.Prelude.{◌≡◌, ◌++◌, List, true};
+ghost use Rattle.client_auth.specs.Identities.{ending_choice};
+ghost use Rattle.example_bakery_service.specs.Model.{error_of, is_error};
+ghost use Rattle.client_call.specs.Ending.{ending_calls};
+ghost use Rattle.laws_client.specs.Retries.Attempting.{GrewAsAllowed, IsOfWholeRun};
+ghost use Rattle.laws_client.specs.Retries.Telling.{TellsBuckets};
+ghost use Rattle.client_components.specs.Paying.{Pays};
+ghost use Rattle.orchestrate.specs.Answered.{InputAnswered};
+ghost use Rattle.orchestrate.specs.Growth.{GrewByAtMost};
+ghost use Rattle.orchestrate.specs.Handing.{HadMemory};
+ghost use Rattle.client_retries.specs.Strategies.{Closes};
+ghost use Rattle.client_retries.specs.declared.strategy.RetryStrategy.{RetryStrategy};
+ghost use Rattle.retry_quota.specs.Calls.{limiters_by};
+ghost use Rattle.run_grammar.specs.declared.answer.Entry.{Entry};
+ghost use Rattle.smithy_types.specs.Chain.{Chained};
+ghost use Rattle.smithy_types.specs.Config.{standard_retry};
+
+use example_bakery_service::BakeryError;
+use example_bakery_service::{BakeryDeserializer, BakerySerializer};
+use laws_client::retries::{decisions_tell_the_bucket, settings_bound_attempts};
+use client_components::RuntimeComponents;
+use client_components::laws::further_attempts_are_paid;
+use http_schemes::{BearerAuthScheme, HttpIdentityResolver};
+use client_builder::{IdentityResolver, OperationBuilder, Scheme};
+use orchestrate::{InvokeError, Operation};
+use outside::Outside;
+use client_retries::TakeOffer;
+use retry_policy::ClassifyRetry;
+use retry_quota::Quota;
+use smithy_types::{RetryConfig, Wire};
+use std::alloc::Global;
+
+/// The builder of an operation of the service.
+pub type BakeryBuilder<In, Out> = OperationBuilder<
+    In,
+    Out,
+    BakeryError,
+    BearerAuthScheme,
+    HttpIdentityResolver,
+    BakerySerializer,
+    BakeryDeserializer,
+>;
+
+/// The client of an operation of the service.
+pub type BakeryClient<X, Q, C, I> = RuntimeComponents<
+    X,
+    Q,
+    C,
+    I,
+    Scheme<BearerAuthScheme>,
+    IdentityResolver<HttpIdentityResolver>,
+    BakerySerializer,
+    BakeryDeserializer,
+>;
+
+/// An operation of the service.
+pub type BakeryOperation<In, Out> = Operation<In, Out, BakeryError>;
+
+/// At most three attempts, a second and two seconds apart, without a random part.
+pub fn retry() -> RetryConfig
+    ensures { result ≡ record standard_retry { static_base = true } }
+{
+    let mut retry = RetryConfig::standard();
+    retry.static_base = true;
+    retry
+}
+
+/// Invokes an operation of the service. At most `fuel` questions are asked. An output or an
+/// `SdkError` is the outcome of one whole run; each further attempt of it began only where fewer
+/// were made than the settings allow, and the bucket granted its cost, so there are at most so many
+/// attempts. The last decision's note tells what the bucket holds afterwards.
+pub fn invoke<
+    X: Outside + Drop,
+    Q: Quota + Drop,
+    C: ClassifyRetry,
+    I: TakeOffer,
+    In: Wire + Drop,
+    Out: Wire + Drop,
+>(
+    alloc: Global,
+    operation: &BakeryOperation<In, Out>,
+    client: &mut BakeryClient<X, Q, C, I>,
+    input: In,
+    fuel: u64,
+) -> Result<Out, InvokeError<BakeryError>>
+    ensures at_most_fuel { GrewByAtMost fuel client.old.log client.new.log }
+    ensures whole_run { InputAnswered In.accepts In.reads_as Out.accepts Out.reads_as is_error
+        (λ p error. error ≡ error_of p.bytes) input fuel result client.old.log client.new.log }
+    ensures paid { HadMemory result → (l : List Entry) × (client.new.log ≡ client.old.log ++ l)
+        × AllByRecursion (λ e. Pays e.question e.answer) l }
+    ensures attempts { IsOfWholeRun result → GrewAsAllowed client.old.log client.new.log }
+    ensures bucket { HadMemory result → (l : List Entry) × (client.new.log ≡ client.old.log ++ l)
+        × TellsBuckets (Q.meaning client.new.parts.quota) l }
+{
+    settings_bound_attempts();
+    further_attempts_are_paid::<
+        X,
+        Q,
+        C,
+        I,
+        Scheme<BearerAuthScheme>,
+        IdentityResolver<HttpIdentityResolver>,
+        BakerySerializer,
+        BakeryDeserializer,
+    >();
+    decisions_tell_the_bucket::<
+        X,
+        Q,
+        C,
+        I,
+        Scheme<BearerAuthScheme>,
+        IdentityResolver<HttpIdentityResolver>,
+        BakerySerializer,
+        BakeryDeserializer,
+    >();
+    operation.invoke(alloc, client, input, fuel)
+}
+
+/// Takes outside and quota out of a client, for that of another operation. First it ends what is
+/// open outside (the load of an identity, the call and the sleeps), and gives the permit back that
+/// the retry strategy still holds.
+pub fn taken_apart<X: Outside + Drop, Q: Quota + Drop, C: ClassifyRetry, I: TakeOffer>(
+    client: BakeryClient<X, Q, C, I>,
+) -> (X, Q)
+    ensures outside { Chained X.makes client.parts.outside
+        (ending_choice client.parts.identities
+        ++ ending_calls client.parts.sleeps client.parts.call)
+        result.0 }
+    ensures quota { (emptied : RetryStrategy Q.Permit) × Closes (record {
+      meaning = Q.meaning;
+      permit_bucket = Q.permit_bucket;
+      permit_amount = Q.permit_amount;
+      limiters = limiters_by Q.Limiter.at Q.Limiter.after_acquire Q.Limiter.reply_to
+          Q.Limiter.after_update;
+    }) client.parts.strategy client.parts.quota emptied result.1 }
+{
+    let mut client = client;
+    client.parts.end_open();
+    client.close();
+    let parts = client.parts;
+    (parts.outside, parts.quota)
+}

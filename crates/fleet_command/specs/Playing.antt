@@ -1,9 +1,0 @@
--- The callers of a script before they begin.
-use Rattle.std.specs.Prelude.{◌≡◌, List, map}
-use Rattle.fleet_command.specs.declared.caller.CallerState.{CallerState}
-use Rattle.fleet_command.specs.declared.caller.CallerState.TheVariants.{Ready}
-use Rattle.fleet_command.specs.declared.work.CallerWork.{CallerWork}
-
--- each has its work before it
-abbrev pub AreReady : List CallerWork → List CallerState → Type 0
-AreReady works states = states ≡ map Ready works

@@ -1,0 +1,12 @@
+//! Prints what the program does, to be compared with a print made without it.
+#![tactic(auto)]
+
+mod fleet;
+mod streams;
+
+use anyhow::Result;
+
+fn main(rt: HostRuntime) -> Result<()> {
+    fleet::print(rt, &rt)?;
+    streams::print(rt, &rt)
+}

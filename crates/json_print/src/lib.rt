@@ -1,0 +1,13 @@
+//! The print of a run: the line that it is begun with, a line for each entry, and the last line.
+#![tactic(auto)]
+
+pub mod determined;
+pub mod ending;
+pub mod head;
+pub mod laws;
+mod plain;
+pub mod print;
+pub mod world;
+
+pub use ending::Ending;
+pub use head::RunHead;

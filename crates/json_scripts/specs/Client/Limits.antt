@@ -1,0 +1,54 @@
+-- Which client scripts are within the limits.
+use Rattle.std.specs.Prelude.{ℕ, List, Bool, true, ◌&&◌, length, nat_le, sum_by}
+use Rattle.std.specs.List.{list_all}
+use Rattle.json_scripts.specs.Records.Limits.{sources_fit, records_fit}
+use Rattle.json_scripts.specs.Texts.{fits_or_none, text_fits, texts_fit}
+use Rattle.json_scripts.specs.declared.client.script.ClientScript.{ClientScript}
+use Rattle.json_scripts.specs.declared.client.terms.AuthChoice.{AuthChoice}
+use Rattle.json_scripts.specs.declared.client.terms.AuthChoice.TheVariants as auths
+use Rattle.json_scripts.specs.declared.client.terms.AuthSchemes.{AuthSchemes}
+use Rattle.json_scripts.specs.declared.client.terms.BucketTerms.{BucketTerms}
+use Rattle.json_scripts.specs.declared.client.terms.ClientObject.{ClientObject}
+use Rattle.json_scripts.specs.declared.client.terms.HttpSchemeChoice.{HttpSchemeChoice}
+use Rattle.json_scripts.specs.declared.client.terms.HttpSchemeChoice.TheVariants.{Bearer, ApiKey}
+use Rattle.json_scripts.specs.declared.client.terms.InvocationRecord.{InvocationRecord}
+
+-- ---- buckets
+
+unfoldable pub capacity_fits : BucketTerms → Bool
+capacity_fits b = nat_le b.capacity 500000000
+
+-- ---- clients
+
+unfoldable pub http_scheme_fits : HttpSchemeChoice → Bool
+http_scheme_fits Bearer = true
+http_scheme_fits (ApiKey k) = text_fits k.name && fits_or_none text_fits k.prefix
+
+unfoldable pub schemes_fit : AuthSchemes → Bool
+schemes_fit a = texts_fit a.options && (texts_fit a.schemes && (list_all http_scheme_fits a.http_schemes && (sources_fit a.identities && fits_or_none texts_fit a.preference)))
+
+unfoldable pub auth_fits : AuthChoice → Bool
+auth_fits auths.NoAuth = true
+auth_fits (auths.Schemes a) = schemes_fit a
+
+-- each text of a client
+unfoldable pub client_fits : ClientObject → Bool
+client_fits c = text_fits (c.target).service && (text_fits (c.target).operation && (text_fits (c.target).url && (fits_or_none text_fits (c.target).prefix && auth_fits c.auth)))
+
+abbrev pub clients_fit : List ClientObject → Bool
+clients_fit cs = list_all client_fits cs
+
+-- ---- invocations
+
+unfoldable pub invocation_fits : InvocationRecord → Bool
+invocation_fits i = records_fit i.responses
+
+abbrev pub fuel_of : InvocationRecord → ℕ
+fuel_of i = i.fuel
+
+-- ---- scripts
+
+-- Capacities up to 500000000, texts and heads within their limits, at most 10000 invocations, and 100000 of fuel together.
+unfoldable pub client_script_fits : ClientScript → Bool
+client_script_fits s = list_all capacity_fits s.buckets && (clients_fit s.clients && (list_all invocation_fits s.invocations
+    && (nat_le (length s.invocations) 10000 && nat_le (sum_by fuel_of s.invocations) 100000)))

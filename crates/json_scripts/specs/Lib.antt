@@ -1,0 +1,9 @@
+pub mod Client
+pub mod Fleet
+pub mod Records
+pub mod Members
+pub mod Texts
+pub mod Heads
+pub mod Words
+pub mod Stop
+pub mod Workload

@@ -1,0 +1,3 @@
+//! What a question of a run is handed.
+
+pub mod laws;

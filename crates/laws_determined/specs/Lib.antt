@@ -1,0 +1,5 @@
+pub mod Auth
+pub mod Calls
+pub mod Client
+pub mod Retries
+pub mod Steady

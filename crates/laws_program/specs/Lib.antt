@@ -1,0 +1,5 @@
+pub mod Paid
+pub mod Runs
+pub mod Clients
+pub mod Scripts
+pub mod Made

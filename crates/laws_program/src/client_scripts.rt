@@ -1,0 +1,3 @@
+//! Laws of scripts with clients: what a text must not have to be one.
+
+pub mod laws;

@@ -1,0 +1,15 @@
+//! What holds of the invocations that `client` prints. The function does nothing but call another
+//! law: its contract is the law.
+
+ghost use Rattle.laws_program.specs.Paid.Paid.{ClientsPay};
+
+use laws_client::retries::settings_bound_attempts;
+
+/// The print of a script's clients begins with its invocations in their order. In each of them a
+/// further attempt is made only where fewer were made than the settings allow and the bucket
+/// granted it; and one whose run is whole begins as many attempts at most as its settings allow.
+pub fn clients_pay()
+    ensures { ClientsPay }
+{
+    settings_bound_attempts();
+}

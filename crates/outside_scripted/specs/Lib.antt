@@ -1,0 +1,10 @@
+pub mod Call
+pub mod Counting
+pub mod Determined
+pub mod Loads
+pub mod Makes
+pub mod Sleeps
+pub mod Time
+pub mod Wake
+pub mod Words
+pub mod Service

@@ -1,0 +1,28 @@
+//! An outside that follows a script: its clock moves only where something is waited for, and each
+//! response and identity comes when the script says.
+#![tactic(auto)]
+
+pub mod call;
+pub mod laws;
+pub mod loads;
+pub mod queue;
+pub mod records;
+mod rows;
+pub mod scripted_outside;
+pub mod sleeps;
+pub mod wake;
+pub mod words;
+
+pub use call::{OpenBody, OpenCall};
+pub use loads::OpenLoad;
+pub use queue::Records;
+pub use records::{
+    Frame, IdentityAnswer, IdentityRecord, RecordAnswer, ResponseRecord, ScriptedResponse,
+};
+pub use scripted_outside::ScriptedOutside;
+pub use sleeps::Sleeps;
+pub use words::Words;
+pub use rows::{Row, service};
+
+#[cfg(test)]
+mod tests;

@@ -1,9 +1,0 @@
-use Rattle.std.proofs.Common.{◌≡◌, drop}
-use Rattle.json_forms.specs.View.{items_view}
-use Rattle.json_forms.specs.Lists.{list_of}
-use Rattle.json_forms.proofs.ReadLists.{behind}
-use Rattle.outside_scripts.specs.Responses.{response_record_at}
-use Rattle.outside_scripts.proofs.responses.record_items.Given as goal
-
-abbrev pub invariant-loop-value : goal.invariant-loop-value
-invariant-loop-value l = behind l.list (list_of response_record_at (items_view (drop l.value-index l.items))) ≡ list_of response_record_at (items_view l.items)

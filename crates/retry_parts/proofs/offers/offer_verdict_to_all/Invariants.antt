@@ -1,7 +1,0 @@
-use Rattle.std.proofs.Common.{◌≡◌}
-use Rattle.retry_parts.proofs.Fronts.{front_changed}
-use Rattle.retry_parts.proofs.offers.offer_verdict_to_all.Given as goal
-
--- those before the index were offered it
-abbrev pub invariant-loop-one : goal.invariant-loop-one
-invariant-loop-one g l = l.chain ≡ front_changed (λ i. g.I.TakeOffer.with_verdict i l.verdict) l.one-index l.fn.chain

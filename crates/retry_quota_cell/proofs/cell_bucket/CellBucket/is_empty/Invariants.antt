@@ -1,0 +1,5 @@
+use Rattle.retry_quota.specs.History.{Convert}
+use Rattle.retry_quota_cell.proofs.cell_bucket.CellBucket.is_empty.Given as goal
+
+abbrev pub ghosts-make : goal.ghosts-make
+ghosts-make g a = record { step = Convert }

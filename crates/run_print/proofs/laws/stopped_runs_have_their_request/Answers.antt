@@ -1,5 +1,0 @@
-use Rattle.run_print.proofs.Stopped.{stopped_with_request}
-use Rattle.run_print.proofs.laws.stopped_runs_have_their_request.Goals as goal
-
-pub returns : goal.returns
-returns c = stopped_with_request

@@ -1,4 +1,0 @@
-pub mod Endings
-pub mod Print
-pub mod Laws
-pub mod Plain

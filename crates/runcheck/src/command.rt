@@ -1,0 +1,58 @@
+//! The command that tells whether its input is the print of a run.
+ghost use Rattle.std.specs.Prelude.{◌≡◌, IfOk};
+ghost use Rattle.cli_shell.specs.Said.{prints, said};
+ghost use Rattle.runcheck.specs.Check.{line_of, verdict_says};
+
+use json_forms::Json;
+use crate::{Verdict, check};
+use cli_shell::command::{Answer, Command};
+use cli_shell::status::PrintStatus;
+use smithy_types::OutOfMemory;
+use std::alloc::{AllocError, Global};
+
+/// Tells whether the input is the print of a whole run and of its answer.
+#[derive(Drop)]
+pub struct Check;
+
+impl Command for Check {
+    ghost use Rattle.runcheck.specs.Check.{check_says};
+
+    ghost says = { λ _ bytes s. check_says bytes s };
+
+    #[tactic(auto, using(crate::proofs::CheckSaying::verdict_said))]
+    fn answer(&self, alloc: Global, bytes: &[u8]) -> Result<Answer, AllocError> {
+        match check(alloc, bytes) {
+            Ok(verdict) => answer_by(alloc, verdict),
+            Err(OutOfMemory) => Err(AllocError),
+        }
+    }
+}
+
+// What is said by a verdict.
+fn answer_by(alloc: Global, verdict: Verdict) -> Result<Answer, AllocError>
+    ensures { IfOk result (λ a. verdict_says verdict (said a)) }
+{
+    match verdict {
+        Verdict::Yes => print_word(alloc, "yes", PrintStatus::Ok),
+        Verdict::No => print_word(alloc, "no", PrintStatus::CheckNo),
+    }
+}
+
+// A print of one word.
+fn print_word(alloc: Global, word: &str, outcome: PrintStatus) -> Result<Answer, AllocError>
+    ensures { IfOk result (λ a. said a ≡ prints outcome (line_of word.now)) }
+{
+    match write_word(alloc, word) {
+        Ok(text) => Ok(Answer::Print(text, outcome)),
+        Err(OutOfMemory) => Err(AllocError),
+    }
+}
+
+// The line of one word.
+fn write_word(alloc: Global, word: &str) -> Result<Vec<u8>, OutOfMemory>
+    ensures { IfOk result (λ v. v.items ≡ line_of word.now) }
+{
+    let mut text = Vec::new(alloc);
+    Json::single(alloc, Json::text(alloc, word)?)?.write_line(alloc, &mut text)?;
+    Ok(text)
+}

@@ -1,5 +1,0 @@
-use Rattle.script_laws.proofs.ReplayScripts.{replay_scripts_plain}
-use Rattle.script_laws.proofs.laws.a_float_spells_no_script_of_replay.Goals as goal
-
-pub returns : goal.returns
-returns c = replay_scripts_plain

@@ -1,4 +1,0 @@
-//! Laws of every script: what a text must not have to be one.
-#![tactic(auto)]
-
-pub mod laws;

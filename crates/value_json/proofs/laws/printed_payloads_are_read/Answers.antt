@@ -1,9 +1,0 @@
-use Rattle.value_json.proofs.PrintedHeads.{payload_read}
-use Rattle.value_json.proofs.Spelled.{payload_is_spellable}
-use Rattle.value_json.proofs.laws.printed_payloads_are_read.Goals as goal
-
-pub returns-clause-printed : goal.returns-clause-printed
-returns-clause-printed c = payload_read
-
-pub returns-clause-read : goal.returns-clause-read
-returns-clause-read c = payload_is_spellable

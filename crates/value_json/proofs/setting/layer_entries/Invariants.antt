@@ -1,9 +1,0 @@
-use Rattle.std.proofs.Common.{◌≡◌, drop}
-use Rattle.json_forms.specs.View.{items_view}
-use Rattle.json_forms.specs.Lists.{list_of}
-use Rattle.value_json.specs.SettingReadings.{layer_entry_at}
-use Rattle.json_forms.proofs.ReadLists.{behind}
-use Rattle.value_json.proofs.setting.layer_entries.Given as goal
-
-abbrev pub invariant-loop-value : goal.invariant-loop-value
-invariant-loop-value l = behind l.list (list_of layer_entry_at (items_view (drop l.value-index l.items))) ≡ list_of layer_entry_at (items_view l.items)

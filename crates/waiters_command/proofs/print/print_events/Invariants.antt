@@ -1,6 +1,0 @@
-use Rattle.std.proofs.Common.{◌≡◌, ◌++◌, drop}
-use Rattle.waiters_command.specs.Print.{events_text}
-use Rattle.waiters_command.proofs.print.print_events.Given as goal
-
-abbrev pub invariant-loop-event : goal.invariant-loop-event
-invariant-loop-event l = l.out.items ++ events_text (drop l.event-index l.events) ≡ l.initial.out.items ++ events_text l.events

@@ -1,4 +1,0 @@
-//! A law of the scripts that are made: each stands in a text, as if its user had written it.
-#![tactic(auto)]
-
-pub mod laws;
