@@ -5,9 +5,9 @@ ghost use Rattle.retry_quota_cell.specs.Callers.{HasMade, IsUnused, own};
 
 use crate::form::Load;
 use crate::rounds::pay;
-use retry_quota_cell::{At, Caller, CellBucket, CellQuota, Pass, run_callers};
 use rate_limit::ClientRateLimiter;
 use retry_quota::{Sums, TokenBucket};
+use retry_quota_cell::{At, Caller, CellBucket, CellQuota, Pass, run_callers};
 use smithy_types::OutOfMemory;
 use std::alloc::Global;
 use std::marker::Brand;

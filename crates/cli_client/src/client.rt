@@ -6,10 +6,10 @@ ghost use Rattle.cli_shell.specs.Said.{said};
 
 use crate::play::play_script;
 use crate::report::Report;
-use json_scripts::client::{ClientScript, client_script_fits, read_client_script};
-use json_forms::ReadError;
 use cli_shell::command::{Answer, Command};
 use cli_shell::status::Refusal;
+use json_forms::ReadError;
+use json_scripts::client::{ClientScript, client_script_fits, read_client_script};
 use smithy_types::OutOfMemory;
 use std::alloc::{AllocError, Global};
 

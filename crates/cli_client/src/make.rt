@@ -7,9 +7,9 @@ use crate::play::play_script;
 use crate::report::Report;
 use cli_shell::command::{Answer, Telling};
 use cli_shell::status::Refusal;
+use json_scripts::workload::made_script;
 use smithy_types::OutOfMemory;
 use std::alloc::{AllocError, Global};
-use json_scripts::workload::made_script;
 
 /// The most invocations that are made.
 const MOST_INVOCATIONS: u64 = 1000;

@@ -2,9 +2,9 @@
 ghost use Rattle.std.specs.Prelude.{◌≡◌, IfOk};
 ghost use Rattle.cli_client.specs.Opening.{quota_of};
 
+use crate::scripted::{ClientQuota, bucket_of};
 use json_scripts::client::BucketTerms;
 use retry_quota::Registry;
-use crate::scripted::{ClientQuota, bucket_of};
 use smithy_types::OutOfMemory;
 use std::alloc::Global;
 

@@ -7,10 +7,10 @@ ghost use Rattle.json_scripts.specs.Client.Placed.{IsPlaced};
 use crate::opening::open_quota;
 use crate::report::{Report, report_on};
 use crate::runs::ClientSet;
-use json_scripts::client::ClientScript;
-use outside_scripted::ScriptedOutside;
 use crate::scripted::build_clients;
 use cli_shell::status::PrintStatus;
+use json_scripts::client::ClientScript;
+use outside_scripted::ScriptedOutside;
 use smithy_types::OutOfMemory;
 use std::alloc::Global;
 

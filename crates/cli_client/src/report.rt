@@ -7,18 +7,18 @@ ghost use Rattle.retry_quota.specs.Book.{sums_of};
 ghost use Rattle.json_print.specs.Print.{line};
 ghost use Rattle.cli_client.specs.Report.{Counts, Reports, made_data};
 
-use crate::tally::{Tally, count_runs};
 use crate::runs::ClientSet;
 use crate::runs::print::sums_of;
-use json_scripts::client::InvocationRecord;
-use json_forms::{Json, Row};
-use client_retries::TakeOffer;
-use retry_policy::ClassifyRetry;
 use crate::scripted::ClientQuota;
+use crate::tally::{Tally, count_runs};
 use cli_shell::status::PrintStatus;
+use client_retries::TakeOffer;
+use json_forms::{Json, Row};
+use json_scripts::client::InvocationRecord;
+use json_values::note::print_optional_sums;
+use retry_policy::ClassifyRetry;
 use smithy_types::{List, OutOfMemory, Sums};
 use std::alloc::Global;
-use json_values::note::print_optional_sums;
 
 /// What is told of a script's invocations.
 #[derive(Clone, Copy, Debug)]

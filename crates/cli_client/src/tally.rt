@@ -6,10 +6,10 @@ ghost use Rattle.json_scripts.specs.Client.Placed.{HasClient};
 ghost use Rattle.cli_client.specs.Tally.{Tallies, TalliesOne, is_output};
 
 use crate::runs::ClientSet;
-use json_scripts::client::InvocationRecord;
 use client_retries::TakeOffer;
-use retry_policy::ClassifyRetry;
 use json_print::Ending;
+use json_scripts::client::InvocationRecord;
+use retry_policy::ClassifyRetry;
 use smithy_types::{List, OutOfMemory};
 use std::alloc::Global;
 

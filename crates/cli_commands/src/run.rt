@@ -3,24 +3,24 @@ ghost use Rattle.std.specs.Prelude.{◌≡◌, ◌≢◌, Some};
 ghost use Rattle.cli_commands.specs.Run.{Did, Ran};
 ghost use Rattle.cli_commands.specs.Words.{command_of};
 
-use runcheck::command::Check;
 use crate::help::{HELP, VERSION};
-use cli_replay::command::Replay;
 use crate::words::{Command, command_in};
 use cli_client::{ClientCommand, MakeCommand};
 use cli_fleet::{Gate, OpenGate, answer_fleet};
+use cli_replay::command::Replay;
 use cli_shell::fixed::Fixed;
 use cli_shell::serve::{give, serve, show};
 use cli_shell::sink::Sink;
 use cli_shell::source::Source;
 use cli_shell::status::{Ended, ShellStatus, Status};
 use cli_shell::streams::read_all;
+use cli_wait::WaitCommand;
+use cli_waiters::WaitersCommand;
+use runcheck::command::Check;
 use smithy_types::Text;
 use std::alloc::Global;
 use std::sync::Wait;
 use std::thread::Threads;
-use cli_wait::WaitCommand;
-use cli_waiters::WaitersCommand;
 
 /// Does what the words say.
 pub fn run<R: Threads + Wait + Sync, S: Source, K: Sink>(

@@ -6,10 +6,10 @@ ghost use Rattle.cli_shell.specs.Said.{said};
 
 use crate::gate::Gate;
 use crate::play::play_fleet;
-use json_scripts::fleet::{FleetScript, fleet_script_fits, read_fleet_script};
-use json_forms::ReadError;
 use cli_shell::command::Answer;
 use cli_shell::status::Refusal;
+use json_forms::ReadError;
+use json_scripts::fleet::{FleetScript, fleet_script_fits, read_fleet_script};
 use smithy_types::OutOfMemory;
 use std::alloc::{AllocError, Global};
 use std::sync::Wait;

@@ -8,23 +8,23 @@ use crate::gate::Gate;
 use crate::gated::GatedOutside;
 use cli_client::runs::invocation::head_of;
 use cli_client::runs::print::print_invocation;
-use json_scripts::client::InvocationRecord;
 use cli_client::service::{ServiceDeserializer, ServiceScheme, ServiceSerializer};
-use client_components::RuntimeComponents;
-use identity_cell::NoAuthIdentityResolver;
+use cli_shell::status::PrintStatus;
 use client_builder::{IdentityResolver, Scheme};
+use client_components::RuntimeComponents;
 use client_retries::TakeOffer;
+use identity_cell::NoAuthIdentityResolver;
+use json_print::Ending;
+use json_print::print::next_number;
+use json_print::world::{PayloadOperation, outcome_of, run_over};
+use json_scripts::client::InvocationRecord;
+use outside_scripted::IdentityRecord;
 use retry_policy::ClassifyRetry;
 use retry_quota::Quota;
 use run_grammar::Entry;
-use json_print::Ending;
-use json_print::print::next_number;
-use outside_scripted::IdentityRecord;
-use cli_shell::status::PrintStatus;
 use smithy_types::{List, OutOfMemory, Shared};
 use std::alloc::Global;
 use std::mem;
-use json_print::world::{PayloadOperation, outcome_of, run_over};
 
 /// The client of a caller. Q is its quota, C a classifier and I an interceptor.
 pub type CallerWorld<'g, G, Q, C, I> = RuntimeComponents<

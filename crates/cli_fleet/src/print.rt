@@ -8,9 +8,9 @@ use crate::caller::{CallerState, FleetCaller};
 use crate::gate::Gate;
 use crate::work::Told;
 use cli_client::runs::print::print_bucket;
+use cli_shell::status::PrintStatus;
 use json_forms::Json;
 use json_print::print::next_number;
-use cli_shell::status::PrintStatus;
 use smithy_types::{OutOfMemory, Sums};
 use std::alloc::Global;
 

@@ -11,19 +11,19 @@ ghost use Rattle.cli_fleet.specs.Working.{PlaysAll, Worked, caller_partition, pa
 use crate::gate::Gate;
 use crate::gated::GatedOutside;
 use crate::invocation::{CallerTarget, CallerWorld, run_all};
-use retry_quota_cell::{At, CellBucket, CellQuota, Pass};
-use json_scripts::client::{ClientObject, InvocationRecord};
-use rate_limit::ClientRateLimiter;
-use client_retries::TakeOffer;
-use retry_policy::ClassifyRetry;
-use retry_quota::{Limiter, Quota};
-use outside_scripted::IdentityRecord;
 use cli_client::scripted::client::{operation_of, prepare};
 use cli_shell::status::PrintStatus;
+use client_retries::TakeOffer;
+use json_print::world::PayloadOperation;
+use json_scripts::client::{ClientObject, InvocationRecord};
+use outside_scripted::IdentityRecord;
+use rate_limit::ClientRateLimiter;
+use retry_policy::ClassifyRetry;
+use retry_quota::{Limiter, Quota};
+use retry_quota_cell::{At, CellBucket, CellQuota, Pass};
 use smithy_types::{CustomPartition, List, OutOfMemory, RetryPartition, Shared, Text};
 use std::alloc::Global;
 use std::sync::Wait;
-use json_print::world::PayloadOperation;
 
 /// What a caller is to do.
 #[derive(Drop)]

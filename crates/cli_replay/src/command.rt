@@ -6,16 +6,16 @@ ghost use Rattle.cli_replay.specs.Script.Replay.{IsScript};
 ghost use Rattle.cli_shell.specs.Said.{said};
 ghost use Rattle.cli_replay.specs.Replay.{IsReplay, script_says};
 
-use json_forms::ReadError;
-use orchestrate::ScriptWorld;
 use crate::script::replay::{Script, is_within, read_script};
-use json_print::print::print_run;
-use json_print::{Ending, RunHead};
 use cli_shell::command::{Answer, Command};
 use cli_shell::status::{PrintStatus, Refusal};
+use json_forms::ReadError;
+use json_print::print::print_run;
+use json_print::world::{PayloadOperation, outcome_of, run_over};
+use json_print::{Ending, RunHead};
+use orchestrate::ScriptWorld;
 use smithy_types::{OutOfMemory, Text};
 use std::alloc::{AllocError, Global};
-use json_print::world::{PayloadOperation, outcome_of, run_over};
 
 /// Replays the script that the input is, and prints the run.
 #[derive(Drop)]

@@ -8,13 +8,12 @@ ghost use Rattle.cli_wait.specs.Script.{IsBuildable, is_within};
 use crate::ending::WaitEnding;
 use crate::print::print_wait;
 use crate::walk::walked;
-use json_forms::ReadError;
-use crate::ScriptedTimers;
+use crate::{ScriptedTimers, WaitScript, is_within, read_script};
 use cli_shell::command::{Answer, Command};
 use cli_shell::status::{PrintStatus, Refusal};
+use json_forms::ReadError;
 use smithy_types::OutOfMemory;
 use std::alloc::{AllocError, Global};
-use crate::{WaitScript, is_within, read_script};
 
 /// Runs the waiter of the script that the input is, and prints its polls and sleeps.
 #[derive(Drop)]

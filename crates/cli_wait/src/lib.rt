@@ -12,10 +12,10 @@ pub mod scripted_timers;
 pub mod states;
 pub mod walk;
 
+pub use command::WaitCommand;
+pub use ending::WaitEnding;
 pub use notes::{Note, Notes};
 pub use operation::{ask, state_of};
 pub use polls::{PollResult, PolledValue, ScriptedPoll};
-pub use scripted_timers::ScriptedTimers;
 pub use script::{WaitScript, is_within, read_polls, read_script};
-pub use command::WaitCommand;
-pub use ending::WaitEnding;
+pub use scripted_timers::ScriptedTimers;

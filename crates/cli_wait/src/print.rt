@@ -4,12 +4,12 @@ ghost use Rattle.json_forms.specs.JsonData.{data_of};
 ghost use Rattle.cli_wait.specs.Print.{ending_data, exceeded_data, note_data};
 ghost use Rattle.cli_wait.specs.Print.{notes_text, wait_text, word_data};
 
+use crate::Note;
 use crate::ending::WaitEnding;
 use json_forms::{Json, Row};
-use crate::Note;
+use json_values::http::print_payload;
 use smithy_types::OutOfMemory;
 use std::alloc::Global;
-use json_values::http::print_payload;
 
 /// The whole print: a line for each note, and the ending.
 #[tactic(auto, unfolding(crate::specs::Print::wait_text))]

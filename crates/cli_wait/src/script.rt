@@ -9,14 +9,14 @@ ghost use Rattle.cli_wait.specs.Script.{polls_at, result_at, script_at, script_m
 ghost use Rattle.cli_wait.specs.Script.{some_of, state_at};
 
 use crate::states::state_named;
+use crate::{PollResult, ScriptedPoll};
 use json_forms::forms::{read_tagged, says, starts};
 use json_forms::read::{items, member, number, str, triple};
 use json_forms::{Arena, ReadError, Value};
 use json_scripts::{FUEL_LIMIT, only_members, read_words};
-use crate::{PollResult, ScriptedPoll};
+use json_values::http::read_payload;
 use smithy_types::{AcceptorState, List};
 use std::alloc::Global;
-use json_values::http::read_payload;
 
 /// The least delay of a waiter, in nanoseconds.
 const SECOND: u64 = 1_000_000_000;

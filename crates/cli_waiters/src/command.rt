@@ -4,15 +4,15 @@ ghost use Rattle.cli_shell.specs.Said.{said};
 ghost use Rattle.cli_waiters.specs.Waiters.{IsWaiters, script_says};
 ghost use Rattle.cli_waiters.specs.Script.Script.{are_good, is_within};
 
+use crate::fleet::{ScriptedFleet, plans_of};
 use crate::print::{print_fleet, status_of};
 use crate::running::{bucket_of, waited};
-use json_forms::ReadError;
-use crate::fleet::{ScriptedFleet, plans_of};
+use crate::script::{WaitersScript, is_within, read_script};
 use cli_shell::command::{Answer, Command};
 use cli_shell::status::{PrintStatus, Refusal};
+use json_forms::ReadError;
 use smithy_types::OutOfMemory;
 use std::alloc::{AllocError, Global};
-use crate::script::{WaitersScript, is_within, read_script};
 
 /// Runs the waiters of the script that the input is, and prints what happened.
 #[derive(Drop)]

@@ -6,11 +6,11 @@ ghost use Rattle.cli_waiters.specs.Print.{bucket_data, came_to, end_data, end_na
 ghost use Rattle.cli_waiters.specs.Print.{events_text, fleet_text, is_well, line_of, poll_data};
 ghost use Rattle.cli_waiters.specs.Print.{refusal_data, sleep_data};
 
-use json_forms::Json;
 use cli_shell::status::PrintStatus;
+use json_forms::Json;
+use json_values::note::print_sums;
 use smithy_types::{OutOfMemory, Sums};
 use std::alloc::Global;
-use json_values::note::print_sums;
 use waiter_fleet::{FleetEnd, FleetEvent};
 
 /// The whole print: the lines of the events, and the sums of the bucket.

@@ -5,8 +5,8 @@ ghost use Rattle.waiter_fleet.specs.Waiting.{WaitsAll};
 ghost use Rattle.cli_waiters.specs.Fleet.Makes.{Does};
 ghost use Rattle.cli_waiters.specs.Waiters.{book_of, waits_of};
 
-use retry_quota::{BucketTerms, TokenBucket};
 use crate::fleet::ScriptedFleet;
+use retry_quota::{BucketTerms, TokenBucket};
 use smithy_types::{List, OutOfMemory};
 use std::alloc::Global;
 use waiter_fleet::{FleetError, FleetEvent, Plan, wait_all};

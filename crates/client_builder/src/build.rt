@@ -21,10 +21,10 @@ use client_auth::{
 };
 use client_call::{Call, Sleeps};
 use client_components::{Given, Parts, RuntimeComponents};
+use client_retries::RetryStrategy;
 use identity_cell::{NoAuthIdentityResolver, ResolveIdentity};
 use orchestrate::Operation;
 use outside::Outside;
-use client_retries::RetryStrategy;
 use retry_policy::{Classifier, ClassifyRetry, NeverRetryStrategy, StandardRetryStrategy};
 use retry_quota::Quota;
 use smithy_base::Slot;

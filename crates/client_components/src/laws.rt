@@ -5,9 +5,9 @@ ghost use Rattle.client_components.specs.Paying.{FurtherAttemptsArePaid};
 
 use auth_endpoint::AuthScheme;
 use client_auth::{DeserializeResponse, SerializeRequest};
+use client_retries::TakeOffer;
 use identity_cell::ResolveIdentity;
 use outside::Outside;
-use client_retries::TakeOffer;
 use retry_policy::ClassifyRetry;
 use retry_quota::Quota;
 

@@ -3,9 +3,9 @@
 use auth_endpoint::AuthScheme;
 use client_auth::{DeserializeResponse, Identities, SerializeRequest};
 use client_call::{Call, Sleeps};
+use client_retries::{RetryStrategy, TakeOffer};
 use identity_cell::ResolveIdentity;
 use outside::Outside;
-use client_retries::{RetryStrategy, TakeOffer};
 use retry_policy::ClassifyRetry;
 use retry_quota::Quota;
 use smithy_context::Layer;

@@ -3,29 +3,26 @@
 #![tactic(auto)]
 
 use anyhow::Result;
+use client_builder::{OperationBuilder, added, refusal_of};
+use client_retries::TakeOffer;
 use example_bakery_client::{
     BakeryBuilder, BakeryClient, BakeryOperation, Ending, GetOrder, Watch, bearer_id, invoke,
     retry, signing_by, taken_apart, wait,
 };
 use example_bakery_service::{
-    ERROR, GET_ORDER_OUTPUT, GetOrderInput, GetOrderOutput, PLACE_ORDER_OUTPUT, PlaceOrderInput,
-    PlaceOrderOutput,
-};
-use example_bakery_service::{
-    BakeryDeserializer, BakerySerializer, ClientNameInterceptor, TooEarlyClassifier,
+    BakeryDeserializer, BakerySerializer, ClientNameInterceptor, ERROR, GET_ORDER_OUTPUT,
+    GetOrderInput, GetOrderOutput, PLACE_ORDER_OUTPUT, PlaceOrderInput, PlaceOrderOutput,
+    TooEarlyClassifier,
 };
 use http_schemes::BearerAuthScheme;
-use client_builder::{OperationBuilder, added, refusal_of};
+use json_print::print::print_run;
+use json_print::{Ending as RunEnding, RunHead};
 use outside::Outside;
+use outside_scripted::{Row, ScriptedOutside, service};
 use rate_limit::ClientRateLimiter;
-use client_retries::TakeOffer;
 use retry_policy::{Classifier, ClassifyRetry, ModeledAsRetryableClassifier};
 use retry_quota::{Quota, Registry};
 use run_grammar::Entry;
-use json_print::print::print_run;
-use json_print::{Ending as RunEnding, RunHead};
-use outside_scripted::ScriptedOutside;
-use outside_scripted::{Row, service};
 use smithy_types::{Fault, OutOfMemory, SdkError, StopPoint, Text, TimeoutConfig, Timers, Wire};
 use std::alloc::Global;
 use std::fmt::Display;

@@ -6,13 +6,13 @@ ghost use Rattle.smithy_types.specs.declared.fault.FaultKind.TheVariants.{Other}
 ghost use Rattle.smithy_types.specs.declared.fault.SdkError.TheVariants.{DispatchFailure};
 
 use crate::client::{BakeryClient, BakeryOperation, invoke};
+use client_retries::TakeOffer;
 use example_bakery_service::{BakeryError, GetOrderInput, GetOrderOutput, OrderState};
 use orchestrate::InvokeError;
 use outside::Outside;
-use client_retries::TakeOffer;
+use outside_scripted::ScriptedOutside;
 use retry_policy::ClassifyRetry;
 use retry_quota::Quota;
-use outside_scripted::ScriptedOutside;
 use smithy_types::{AcceptorState, Fault, FaultKind, OutOfMemory, SdkError, Text, Timers};
 use std::alloc::Global;
 use waiters::backoff::SECOND;

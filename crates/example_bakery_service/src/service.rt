@@ -2,9 +2,9 @@
 ghost use Rattle.std.specs.Prelude.{◌≡◌, IfOk};
 ghost use Rattle.example_bakery_service.specs.Service.{is_modelled, read_outcome};
 
+use crate::ERROR;
 use client_auth::responses::{body_bytes, failed};
 use client_auth::{DeserializeResponse, SerializeRequest, Serialized};
-use crate::ERROR;
 use smithy_context::Settings;
 use smithy_types::{
     Body, FaultKind, Headers, HttpRequest, HttpResponse, OutOfMemory, Outcome, Payload, Text,

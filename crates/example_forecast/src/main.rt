@@ -10,22 +10,22 @@ ghost use Rattle.text_payloads.specs.Text.{is_text};
 
 mod forecasts;
 
-use anyhow::Result;
-use auth_endpoint::NoAuthScheme;
-use client_components::RuntimeComponents;
 use crate::forecasts::{
     ForecastDeserializer, ForecastError, ForecastSerializer, GetForecastInput, GetForecastOutput,
     Sky,
 };
-use identity_cell::NoAuthIdentityResolver;
+use anyhow::Result;
+use auth_endpoint::NoAuthScheme;
 use client_builder::{IdentityResolver, OperationBuilder, Scheme, added, refusal_of};
+use client_components::RuntimeComponents;
+use client_retries::TakeOffer;
+use identity_cell::NoAuthIdentityResolver;
 use orchestrate::{InvokeError, Operation};
 use outside::Outside;
+use outside_scripted::{Row, service};
 use rate_limit::ClientRateLimiter;
-use client_retries::TakeOffer;
 use retry_policy::{Classifier, ClassifyRetry, ModeledAsRetryableClassifier};
 use retry_quota::{Quota, Registry};
-use outside_scripted::{Row, service};
 use smithy_types::{RetryConfig, Text, TimeoutConfig, Timers};
 use std::alloc::Global;
 

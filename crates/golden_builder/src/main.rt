@@ -4,22 +4,22 @@
 
 use anyhow::Result;
 use auth_endpoint::{AuthScheme, NoAuthScheme};
-use client_auth::{DeserializeResponse, IdentitySource, SerializeRequest};
 use cli_client::service::{ServiceDeserializer, ServiceError, ServiceSerializer};
+use client_auth::{DeserializeResponse, IdentitySource, SerializeRequest};
+use client_builder::{BuildRefusal, OperationBuilder, Plugin, added, refusal_of};
 use client_components::RuntimeComponents;
+use client_retries::TakeOffer;
 use http_schemes::bearer::HTTP_BEARER_AUTH_SCHEME_ID;
 use http_schemes::{BearerAuthScheme, HttpIdentityResolver};
 use identity_cell::{IdentityCache, NoAuthIdentityResolver, ResolveIdentity};
-use client_builder::{BuildRefusal, OperationBuilder, Plugin, added, refusal_of};
+use json_print::print::print_entries;
 use orchestrate::Operation;
 use outside::Outside;
+use outside_scripted::{Row, service};
 use rate_limit::ClientRateLimiter;
-use client_retries::TakeOffer;
 use retry_policy::{Classifier, ClassifyRetry, ModeledAsRetryableClassifier};
 use retry_quota::{Quota, Registry};
 use run_grammar::Entry;
-use json_print::print::print_entries;
-use outside_scripted::{Row, service};
 use smithy_base::ComponentsDraft;
 use smithy_context::{Layer, Setting, SettingKey, Settings};
 use smithy_types::{

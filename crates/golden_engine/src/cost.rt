@@ -5,13 +5,13 @@
 
 ghost use Rattle.std.specs.Prelude.{◌≡◌, [], IfOk};
 
-use anyhow::{Context, Result};
-use orchestrate::{ScriptWorld, invoke};
 use crate::scripts::script::{
     ANSWERED, CONFIGURED, DECIDED, DELAYED, GRANTED, Line, OPENED, UNAVAILABLE,
 };
 use crate::scripts::spelled::payload;
 use crate::scripts::world;
+use anyhow::{Context, Result};
+use orchestrate::{ScriptWorld, invoke};
 use smithy_types::OutOfMemory;
 use std::alloc::Global;
 use std::env;

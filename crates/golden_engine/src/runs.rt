@@ -9,8 +9,8 @@ mod rows;
 mod told;
 mod types;
 
-use anyhow::Result;
 use crate::scripts::{Line, Spelled};
+use anyhow::Result;
 use row::{Row, begins, run, run_without_memory, stopped};
 use rows::{CUT_IN_DELAY, SECOND_ATTEMPT, STOPPED, TEAPOT, TO_BE_SENT};
 use run_grammar::{ConfigureStage, Kind};

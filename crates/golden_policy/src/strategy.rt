@@ -1,7 +1,7 @@
 //! What strategies are asked.
 use anyhow::Result as Told;
-use retry_quota::free_limiter::FreeLimiter;
 use retry_policy::{Decision, Initial, NeverRetryStrategy, StandardRetryStrategy, StrategyError};
+use retry_quota::free_limiter::FreeLimiter;
 use retry_quota::{Quota, Registry, Sums, TokenBucket};
 use smithy_context::{InterceptorContext, Layer, Setting, Settings};
 use smithy_types::{

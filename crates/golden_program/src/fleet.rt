@@ -22,7 +22,12 @@ pub fn print<R: Threads + Wait + Sync>(rt: HostRuntime, threads: &R) -> Result<(
     for count in [5000, 5001] {
         print_many(rt, threads, count)?;
     }
-    print_held(rt, threads, "a call that waits for another caller", TWO_CALLERS)?;
+    print_held(
+        rt,
+        threads,
+        "a call that waits for another caller",
+        TWO_CALLERS,
+    )?;
     print_held(
         rt,
         threads,

@@ -6,8 +6,8 @@ mod streams;
 
 use anyhow::Result;
 use cli_commands::program::program;
-use inputs::{CLIENT, FLEET, REPLAY, WAIT, WAITERS};
 use cli_shell::status::Status;
+use inputs::{CLIENT, FLEET, REPLAY, WAIT, WAITERS};
 use smithy_types::{List, Text};
 use std::alloc::Global;
 use std::sync::Wait;

@@ -5,8 +5,8 @@ ghost use Rattle.std.specs.Prelude.{IfOk};
 ghost use Rattle.retry_quota_cell.specs.Known.{IsOf};
 
 use anyhow::Result;
-use retry_quota_cell::{CellBucket, Pass};
 use retry_quota::{Permit, Sums, TokenBucket};
+use retry_quota_cell::{CellBucket, Pass};
 use smithy_types::ErrorKind;
 use std::sync::Wait;
 

@@ -8,10 +8,10 @@ use body_guard::stalled_stream::{
 };
 use cli_client::service::ServiceError;
 use client_builder::OwnInterceptor;
-use outside::Outside;
-use rate_limit::ClientRateLimiter;
 use client_retries::TakeOffer;
 use client_retries::hooking::hook;
+use outside::Outside;
+use rate_limit::ClientRateLimiter;
 use retry_policy::{
     Classifier, ClassifyRetry, ConnectionPoisoningInterceptor, HttpStatusCodeClassifier,
     TokenBucketProvider,

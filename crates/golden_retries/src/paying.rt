@@ -5,11 +5,11 @@ use crate::hooks::by_status;
 use crate::messages::{answer_text, outcome, request, response};
 use crate::standing::{Standing, settings};
 use cli_client::service::ServiceError;
-use outside::Outside;
-use rate_limit::ClientRateLimiter;
 use client_retries::RetryStrategy;
 use client_retries::decide::{context_of, decide};
 use client_retries::initial::initial;
+use outside::Outside;
+use rate_limit::ClientRateLimiter;
 use retry_policy::{
     Classifier, ClassifyRetry, ModeledAsRetryableClassifier, NeverRetryStrategy,
     StandardRetryStrategy,

@@ -9,12 +9,12 @@ ghost use Rattle.json_print.specs.Print.{error_data, ending_data};
 
 use crate::head::RunHead;
 use json_forms::Json;
+use json_values::fault::print_fault;
+use json_values::http::{print_payload, print_request, print_response};
 use orchestrate::InvokeError;
 use smithy_context::{HookView, InterceptorContext};
 use smithy_types::{HttpRequest, OutOfMemory, Outcome, Payload, SdkError, Shared};
 use std::alloc::Global;
-use json_values::fault::print_fault;
-use json_values::http::{print_payload, print_request, print_response};
 
 /// How a run ended.
 #[derive(Drop)]

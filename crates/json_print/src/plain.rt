@@ -6,10 +6,10 @@ ghost use Rattle.json_print.specs.Plain.{PrintsAs, words_data};
 ghost use Rattle.json_print.specs.Print.{line};
 
 use itoa::Buffer;
-use run_grammar::{Answer, Kind};
-use smithy_types::OutOfMemory;
 use json_values::answer::does_nothing;
 use json_values::names::kind_title;
+use run_grammar::{Answer, Kind};
+use smithy_types::OutOfMemory;
 
 /// The word that an answer is printed as. There is none where it is printed with parts of its own.
 #[tactic(auto, unfolding(json_values::specs::Values::answer_data, json_values::specs::Values::hook_answer_data, json::specs::Print::escape_byte))]

@@ -13,12 +13,12 @@ use crate::ending::{Ending, print_ending};
 use crate::head::RunHead;
 use crate::plain::{word_of, write_words};
 use json_forms::{Json, Row};
-use run_grammar::{Answer, Entry, Question};
-use smithy_types::{HttpRequest, OutOfMemory, Shared};
-use std::alloc::Global;
 use json_values::answer::{print_answer, print_kind};
 use json_values::http::{print_payload, print_request};
 use json_values::names::stop_name;
+use run_grammar::{Answer, Entry, Question};
+use smithy_types::{HttpRequest, OutOfMemory, Shared};
+use std::alloc::Global;
 
 /// The whole print: what it was begun with, the entries numbered from 1, and the ending. Each line
 /// is data that JSON carries, so it is read as that data, and the print is of characters.

@@ -5,9 +5,9 @@ ghost use Rattle.orchestrate.specs.Handing.{HandedOn};
 ghost use Rattle.json_print.specs.Endings.{Ends};
 ghost use Rattle.json_print.specs.World.Outcome.{came_to};
 
-use orchestrate::{Operation, World, invoke_with_stop_point};
 use crate::{Ending, RunHead};
 use cli_shell::status::PrintStatus;
+use orchestrate::{Operation, World, invoke_with_stop_point};
 use smithy_types::{OutOfMemory, Payload, StopPoint};
 use std::alloc::Global;
 

@@ -5,8 +5,8 @@ ghost use Rattle.json_forms.specs.Reading.{Reads};
 ghost use Rattle.json_scripts.specs.Stop.{stop_at};
 
 use json_forms::{ReadError, Value, read};
-use smithy_types::StopPoint;
 use json_values::names::stop_named;
+use smithy_types::StopPoint;
 
 /// The stop point that the value names. Refused where it names none.
 #[tactic(auto, unfolding(crate::specs::Stop::stop_at))]

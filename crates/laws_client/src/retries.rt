@@ -8,9 +8,9 @@ ghost use Rattle.laws_client.specs.Retries.Telling.{DecisionsTellBuckets};
 use crate::attempts::attempts_are_bounded;
 use auth_endpoint::AuthScheme;
 use client_auth::{DeserializeResponse, SerializeRequest};
+use client_retries::TakeOffer;
 use identity_cell::ResolveIdentity;
 use outside::Outside;
-use client_retries::TakeOffer;
 use retry_policy::ClassifyRetry;
 use retry_quota::Quota;
 

@@ -10,9 +10,9 @@ ghost use Rattle.laws_determined.specs.Retries.Alike.{registers_mean};
 
 use auth_endpoint::AuthScheme;
 use client_auth::{DeserializeResponse, SerializeRequest};
+use client_retries::TakeOffer;
 use identity_cell::ResolveIdentity;
 use outside::Outside;
-use client_retries::TakeOffer;
 use retry_policy::ClassifyRetry;
 use retry_quota::Limiter;
 

@@ -8,8 +8,8 @@ ghost use Rattle.laws_determined.specs.Retries.Kinds.{DecisionsAreDetermined, Ho
 ghost use Rattle.laws_determined.specs.Retries.Kinds.{InitialsAreDetermined};
 ghost use Rattle.laws_determined.specs.Steady.Steady.{IsSteady};
 
-use outside::Outside;
 use client_retries::TakeOffer;
+use outside::Outside;
 use retry_quota::Limiter;
 
 /// Two strategies that hold alike, over registers that are alike, begin with the same answer over

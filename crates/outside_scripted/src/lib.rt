@@ -19,10 +19,10 @@ pub use queue::Records;
 pub use records::{
     Frame, IdentityAnswer, IdentityRecord, RecordAnswer, ResponseRecord, ScriptedResponse,
 };
+pub use rows::{Row, service};
 pub use scripted_outside::ScriptedOutside;
 pub use sleeps::Sleeps;
 pub use words::Words;
-pub use rows::{Row, service};
 
 #[cfg(test)]
 mod tests;

@@ -3,10 +3,10 @@ ghost use Rattle.std.specs.Prelude.{◌≡◌, IfOk};
 ghost use Rattle.cli_shell.specs.Said.{prints, said};
 ghost use Rattle.runcheck.specs.Check.{line_of, verdict_says};
 
-use json_forms::Json;
 use crate::{Verdict, check};
 use cli_shell::command::{Answer, Command};
 use cli_shell::status::PrintStatus;
+use json_forms::Json;
 use smithy_types::OutOfMemory;
 use std::alloc::{AllocError, Global};
 

@@ -6,9 +6,9 @@ ghost use Rattle.smithy_context.specs.Failures.{sdk_error_of};
 ghost use Rattle.smithy_types.specs.declared.kinds.StopPoint.TheVariants as stops;
 ghost use Rattle.runcheck.specs.Reach.{ending_at, whole_ending};
 
+use json_print::{Ending, RunHead};
 use orchestrate::InvokeError;
 use orchestrate::finish::{ending, no_outcome};
-use json_print::{Ending, RunHead};
 use smithy_context::InterceptorContext;
 use smithy_types::{Fault, HttpResponse, OutOfMemory, Outcome, Phase, StopPoint};
 

@@ -10,13 +10,13 @@ ghost use Rattle.runcheck.specs.Failing.{told_answer_at};
 
 use json_forms::forms::{read_optional_text, read_tagged, read_word};
 use json_forms::{ReadError, Value, read};
+use json_values::answer::read_answer;
+use json_values::names::hook_name;
+use json_values::setting::read_layer;
 use run_grammar::{Answer, Kind};
 use smithy_context::{Change, HookAnswer};
 use smithy_types::{Fault, FaultKind, Hook, Outcome, Shared};
 use std::alloc::Global;
-use json_values::answer::read_answer;
-use json_values::names::hook_name;
-use json_values::setting::read_layer;
 
 const ALL_HOOKS: [Hook; 20] = [
     Hook::ReadBeforeExecutionClient,

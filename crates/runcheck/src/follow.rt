@@ -8,11 +8,11 @@ ghost use Rattle.runcheck.specs.Reading.Places.{position_of};
 ghost use Rattle.runcheck.specs.Follow.{after_call, entry_of, log_of};
 ghost use Rattle.runcheck.specs.Taken.{Taken};
 
+use crate::reading::grammar::run;
+use crate::reading::walk::{Seen, Walk};
 use crate::told::Call;
 use run_grammar::laws::runs_are_accepted;
 use run_grammar::{Entry, Standing, StopPoint};
-use crate::reading::grammar::run;
-use crate::reading::walk::{Seen, Walk};
 use smithy_types::{OutOfMemory, Payload};
 use std::alloc::Global;
 

@@ -11,17 +11,17 @@ ghost use Rattle.runcheck.specs.Told.{IsTold, call_at, head_at, stop_at};
 ghost use Rattle.runcheck.specs.Told.{told_at, told_by, told_parts};
 
 use crate::failing::read_told_answer;
-use json_forms::lines::lines_of;
 use json_forms::forms::read_word;
+use json_forms::lines::lines_of;
 use json_forms::read::Item;
 use json_forms::{Arena, ReadError, Value, read};
-use run_grammar::{Answer, Kind, StopPoint};
 use json_print::RunHead;
-use smithy_types::List;
-use std::alloc::Global;
 use json_values::answer::read_kind;
 use json_values::http::read_payload;
 use json_values::names::stop_named;
+use run_grammar::{Answer, Kind, StopPoint};
+use smithy_types::List;
+use std::alloc::Global;
 
 /// A call, as its line tells it.
 #[derive(Drop)]

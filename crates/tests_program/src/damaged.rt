@@ -1,13 +1,13 @@
 //! Damaged scripts, and scripts at their limits.
 
 use crate::support;
-use json_forms::{Arena, Value};
 use cli_shell::status::Status;
+use json_forms::{Arena, Value};
+use json_values::answer::{print_answer, read_answer, read_kind};
 use std::alloc::Global;
 use std::sync::Wait;
 use std::test::Fail;
 use std::thread::Threads;
-use json_values::answer::{print_answer, read_answer, read_kind};
 
 // Texts that are no script: no object, members that are missing or misspelled, a second one of
 // another form, values of other forms, and numbers past their fields.

@@ -3,18 +3,18 @@ ghost use Rattle.std.specs.Prelude.{◌≡◌, [], IfOk};
 ghost use Rattle.cli_client.specs.Runs.Means.{ServedBy};
 ghost use Rattle.cli_client.specs.Runs.Invoking.{Invoked, head_of};
 
-use json_scripts::client::InvocationRecord;
+use crate::scripted::{ClientQuota, ScriptedClient};
 use crate::service::{ERROR_KIND, OUTPUT_KIND};
 use client_retries::TakeOffer;
+use json_print::world::run_over;
+use json_print::{Ending, RunHead};
+use json_scripts::client::InvocationRecord;
+use outside_scripted::ScriptedOutside;
 use retry_policy::ClassifyRetry;
 use run_grammar::Entry;
-use json_print::{Ending, RunHead};
-use outside_scripted::ScriptedOutside;
-use crate::scripted::{ClientQuota, ScriptedClient};
 use smithy_types::{List, OutOfMemory, Payload, StopPoint};
 use std::alloc::Global;
 use std::mem;
-use json_print::world::run_over;
 
 /// How many entries a log has room for at first: those of a run of three attempts.
 const LOG_ROOM: usize = 96;

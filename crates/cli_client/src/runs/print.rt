@@ -6,16 +6,16 @@ ghost use Rattle.json_print.specs.Print.{line};
 ghost use Rattle.cli_client.specs.Runs.Print.{bucket_data, buckets_text, invocation_data};
 ghost use Rattle.cli_client.specs.Runs.Print.{invocation_text, loads_data};
 
+use crate::scripted::ClientQuota;
 use json_forms::{Json, Row};
-use retry_quota::Quota;
-use run_grammar::Entry;
 use json_print::Ending;
 use json_print::ending::print_ending;
 use json_print::print::print_entries;
-use crate::scripted::ClientQuota;
+use json_values::note::print_sums;
+use retry_quota::Quota;
+use run_grammar::Entry;
 use smithy_types::{OutOfMemory, Sums};
 use std::alloc::Global;
-use json_values::note::print_sums;
 
 /// An invocation: its number and its client's, the entries numbered from 1, and the ending.
 #[tactic(auto, unfolding(crate::specs::Runs::Print::invocation_text))]

@@ -6,18 +6,18 @@ ghost use Rattle.cli_client.specs.Runs.Running.{InvokedIn, Plays, RunsAll, RunsO
 
 use crate::runs::invocation::invoke;
 use crate::runs::print::{print_buckets, print_invocation, print_loads};
-use json_scripts::client::InvocationRecord;
-use client_retries::TakeOffer;
-use retry_policy::ClassifyRetry;
-use run_grammar::Entry;
-use json_print::Ending;
-use json_print::print::next_number;
-use outside_scripted::ScriptedOutside;
 use crate::scripted::{ClientQuota, ScriptedClient};
 use cli_shell::status::PrintStatus;
+use client_retries::TakeOffer;
+use json_print::Ending;
+use json_print::print::next_number;
+use json_print::world::outcome_of;
+use json_scripts::client::InvocationRecord;
+use outside_scripted::ScriptedOutside;
+use retry_policy::ClassifyRetry;
+use run_grammar::Entry;
 use smithy_types::{List, OutOfMemory};
 use std::alloc::Global;
-use json_print::world::outcome_of;
 
 /// Clients over one outside and one quota.
 #[derive(Drop)]

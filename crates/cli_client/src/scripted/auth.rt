@@ -4,12 +4,12 @@ ghost use Rattle.json_scripts.specs.Client.Schemes.{has_id};
 ghost use Rattle.cli_client.specs.Scripted.Parts.{auth_parts_of, auth_terms_of, key_scheme, scheme_by};
 ghost use Rattle.cli_client.specs.Scripted.Parts.{scheme_of_id, scheme_named, source_of};
 
-use client_auth::{IdentitySource, RegisteredSource};
-use json_scripts::client::{ApiKeyChoice, AuthChoice, AuthSchemes, HttpSchemeChoice};
 use crate::service::ServiceScheme;
+use client_auth::{IdentitySource, RegisteredSource};
+use client_builder::{AuthOptions, IdentityResolver, Scheme};
 use http_schemes::{ApiKeyAuthScheme, BearerAuthScheme};
 use identity_cell::{IdentityCache, NoAuthIdentityResolver, SharedIdentityCache};
-use client_builder::{AuthOptions, IdentityResolver, Scheme};
+use json_scripts::client::{ApiKeyChoice, AuthChoice, AuthSchemes, HttpSchemeChoice};
 use outside_scripted::IdentityRecord;
 use smithy_types::{List, OutOfMemory, Text};
 use std::alloc::Global;

@@ -5,9 +5,9 @@ ghost use Rattle.cli_client.specs.Scripted.Clients.{builder_with};
 
 use crate::scripted::auth::AuthParts;
 use crate::scripted::client::ServiceBuilder;
-use json_scripts::client::{ClientRules, RetryChoice};
 use crate::service::{ServiceDeserializer, ServiceError, ServiceSerializer};
 use client_builder::{OperationBuilder, Plugin, RegisteredDeserializer, StrategyKind};
+use json_scripts::client::{ClientRules, RetryChoice};
 use retry_policy::Classifier;
 use smithy_base::ComponentsDraft;
 use smithy_types::{List, RetryConfig, Text};

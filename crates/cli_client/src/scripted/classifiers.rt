@@ -2,8 +2,8 @@
 ghost use Rattle.std.specs.Prelude.{◌≡◌, ◌++◌, map, IfOk};
 ghost use Rattle.cli_client.specs.Scripted.Parts.{classifier_of};
 
-use json_scripts::client::ClassifierChoice;
 use crate::service::ServiceError;
+use json_scripts::client::ClassifierChoice;
 use retry_policy::{
     Classifier, HttpStatusCodeClassifier, ModeledAsRetryableClassifier, TransientErrorClassifier,
 };

@@ -11,22 +11,22 @@ use crate::scripted::builder::{ClientNames, builder_with};
 use crate::scripted::classifiers::classifiers_of;
 use crate::scripted::partition::partition_of;
 use crate::scripted::plugins::own_plugins;
-use json_scripts::client::{ClassifierChoice, ClientObject, ClientRules, ClientTarget};
 use crate::service::{ServiceDeserializer, ServiceError, ServiceScheme, ServiceSerializer};
-use client_components::RuntimeComponents;
-use identity_cell::NoAuthIdentityResolver;
 use client_builder::{
     BuildRefusal, IdentityResolver, OperationBuilder, OwnInterceptor, Plugin, Scheme,
 };
-use rate_limit::ClientRateLimiter;
+use client_components::RuntimeComponents;
 use client_retries::TakeOffer;
+use identity_cell::NoAuthIdentityResolver;
+use json_print::world::PayloadOperation;
+use json_scripts::client::{ClassifierChoice, ClientObject, ClientRules, ClientTarget};
+use outside_scripted::{IdentityRecord, ScriptedOutside};
+use rate_limit::ClientRateLimiter;
 use retry_policy::{Classifier, ClassifyRetry};
 use retry_quota::Registry;
-use outside_scripted::{IdentityRecord, ScriptedOutside};
 use smithy_base::Slot;
 use smithy_types::{List, OutOfMemory, Payload, RetryPartition, Shared, Text};
 use std::alloc::Global;
-use json_print::world::PayloadOperation;
 
 /// The buckets and the limiters of a script's clients.
 pub type ClientQuota = Registry<ClientRateLimiter>;

@@ -3,8 +3,8 @@ ghost use Rattle.std.specs.Prelude.{OnOk};
 ghost use Rattle.cli_client.specs.Scripted.Clients.{AreBuilt};
 
 use crate::scripted::client::{BuiltClient, ClientQuota, build_client};
-use json_scripts::client::ClientObject;
 use crate::service::ServiceError;
+use json_scripts::client::ClientObject;
 use retry_policy::{Classifier, ClassifyRetry};
 use smithy_types::{List, OutOfMemory};
 use std::alloc::Global;

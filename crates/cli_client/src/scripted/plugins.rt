@@ -4,8 +4,8 @@ ghost use Rattle.client_builder.specs.ClientLayer.{putting};
 ghost use Rattle.client_builder.specs.Plugins.{no_draft};
 ghost use Rattle.cli_client.specs.Scripted.Parts.{plugin_layer, plugins_of, with_v2};
 
-use json_scripts::client::ClientFlags;
 use client_builder::Plugin;
+use json_scripts::client::ClientFlags;
 use smithy_base::ComponentsDraft;
 use smithy_context::{Layer, Setting, SettingKey};
 use smithy_types::{List, OutOfMemory, RetryPartition, Text};

@@ -9,8 +9,8 @@ ghost use Rattle.cli_replay.specs.Script.Limits.{change_fits, setting_fits, key_
 ghost use Rattle.cli_replay.specs.Script.Limits.{layer_fits, hook_answer_fits, chosen_fits, answer_fits};
 ghost use Rattle.cli_replay.specs.Script.Limits.{layer_keys, with_key, with_keys, layer_of_answer};
 
-use run_grammar::{Answer, Chosen};
 use json_scripts::{head_fits, optional_text_fits, optional_texts_fit, text_fits, texts_fit};
+use run_grammar::{Answer, Chosen};
 use smithy_context::{Change, HookAnswer, Layer, LayerEntry, Setting, SettingKey};
 use smithy_types::{
     Blob, Body, Endpoint, EndpointHeader, HttpRequest, HttpResponse, List, OutOfMemory, Outcome,

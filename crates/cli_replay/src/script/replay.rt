@@ -12,14 +12,14 @@ ghost use Rattle.cli_replay.specs.Script.Replay.{answers_fit, keys_fit, is_withi
 use crate::script::limits::{add_keys, answer_fits};
 use json_forms::read::{items, member, number, optional_member, pair};
 use json_forms::{Arena, ReadError, Value};
-use orchestrate::ScriptAnswer;
 use json_print::RunHead;
 use json_scripts::{FUEL_LIMIT, only_members, read_stop};
+use json_values::answer::{read_answer, read_kind};
+use json_values::http::read_payload;
+use orchestrate::ScriptAnswer;
 use smithy_context::SettingKey;
 use smithy_types::{List, OutOfMemory, StopPoint};
 use std::alloc::Global;
-use json_values::answer::{read_answer, read_kind};
-use json_values::http::read_payload;
 
 /// The most different keys that the layers of a script may name.
 const KEY_LIMIT: usize = 64;

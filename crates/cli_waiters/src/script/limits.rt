@@ -3,8 +3,8 @@ ghost use Rattle.std.specs.Prelude.{◌≡◌};
 ghost use Rattle.cli_waiters.specs.Script.Script.{is_within};
 
 use crate::script::terms::WaitersScript;
-use retry_quota::MAXIMUM_CAPACITY;
 use json_scripts::FUEL_LIMIT;
+use retry_quota::MAXIMUM_CAPACITY;
 
 /// The most waiters of a script.
 const WAITERS_LIMIT: usize = 64;

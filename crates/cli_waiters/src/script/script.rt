@@ -6,16 +6,16 @@ ghost use Rattle.json_forms.specs.Reading.{Reads};
 ghost use Rattle.cli_waiters.specs.Script.Script.{are_good, bucket_at, good_of, plan_at, script_at};
 ghost use Rattle.cli_waiters.specs.Script.Script.{some_of, waiter_at, waiters_at, IsScript};
 
+use crate::fleet::ScriptedWaiter;
 use crate::script::members::{only_of_script, only_of_waiter};
 use crate::script::terms::WaitersScript;
+use cli_wait::read_polls;
 use json_forms::read::{items, member, number, number_32, sextuple};
 use json_forms::{Arena, ReadError, Value};
-use retry_quota::BucketTerms;
 use json_scripts::read_words;
-use crate::fleet::ScriptedWaiter;
+use retry_quota::BucketTerms;
 use smithy_types::List;
 use std::alloc::Global;
-use cli_wait::read_polls;
 use waiter_fleet::Plan;
 
 /// The script that the bytes are the text of. Each of its waiters can follow its plan. It is

@@ -1,7 +1,7 @@
 //! What a script says of waiters that one bucket pays for.
 
-use retry_quota::BucketTerms;
 use crate::fleet::ScriptedWaiter;
+use retry_quota::BucketTerms;
 use smithy_types::List;
 
 /// Waiters over a scripted outside. Times are in nanoseconds.

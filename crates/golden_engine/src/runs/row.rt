@@ -1,10 +1,10 @@
 //! A script, and what comes of it.
 
 use crate::runs::{asked, told};
-use anyhow::Result;
-use orchestrate::{InvokeError, ScriptWorld, StopPoint, invoke, invoke_with_stop_point};
 use crate::scripts::spelled::payload;
 use crate::scripts::{Line, RefusingWorld, world};
+use anyhow::Result;
+use orchestrate::{InvokeError, ScriptWorld, StopPoint, invoke, invoke_with_stop_point};
 use run_grammar::Kind;
 use smithy_types::Payload;
 use std::alloc::Global;

@@ -2,11 +2,11 @@
 
 use crate::runs::rows::TEAPOT;
 use crate::runs::told;
-use anyhow::Result as Told;
-use orchestrate::{InvokeError, Operation};
 use crate::scripts::script::{CONFIGURED, DECIDED, GRANTED, OPENED};
 use crate::scripts::spelled::payload;
 use crate::scripts::{Line, Spelled, world};
+use anyhow::Result as Told;
+use orchestrate::{InvokeError, Operation};
 use run_grammar::Kind;
 use smithy_types::{Blob, OutOfMemory, Payload, Text, Wire};
 use std::alloc::Global;

@@ -7,10 +7,10 @@ ghost use Rattle.json_scripts.specs.Client.Auth.{auth_at};
 
 use crate::client::schemes::placed;
 use crate::client::terms::{AuthChoice, AuthSchemes, HttpSchemeChoice};
+use crate::records::read_sources;
 use identity_cell::{LazyCacheBuilder, SharedIdentityCache};
 use json_forms::forms::{read_optional_number, read_optional_texts, read_tagged, read_texts, says};
 use json_forms::{ReadError, Value, read};
-use crate::records::read_sources;
 use smithy_types::List;
 use std::alloc::Global;
 

@@ -15,9 +15,9 @@ use crate::client::schemes::read_http_schemes;
 use crate::client::terms::{ClientFlags, ClientObject, ClientRules, ClientTarget};
 use json_forms::forms::read_optional_text;
 use json_forms::{ReadError, Value, read};
+use json_values::setting::{read_stall, read_timeouts};
 use smithy_types::{List, StalledStreamProtectionConfig, Text};
 use std::alloc::Global;
-use json_values::setting::{read_stall, read_timeouts};
 
 /// How many members a client object has without `http_schemes`, which may be left out.
 const CLIENT_MEMBERS: usize = 15;

@@ -7,12 +7,12 @@ ghost use Rattle.json_scripts.specs.Client.Invocations.{run_at, invocation_at, i
 
 use crate::client::members::{exact_members, read_place};
 use crate::client::terms::InvocationRecord;
-use json_forms::{ReadError, Value, read};
-use crate::records::read_records;
 use crate::read_stop;
+use crate::records::read_records;
+use json_forms::{ReadError, Value, read};
+use json_values::http::read_payload;
 use smithy_types::List;
 use std::alloc::Global;
-use json_values::http::read_payload;
 
 /// How many members an invocation has.
 const INVOCATION_MEMBERS: usize = 5;

@@ -10,9 +10,7 @@ use crate::client::terms::{
     AuthChoice, AuthSchemes, BucketTerms, ClientObject, HttpSchemeChoice, InvocationRecord,
 };
 use crate::records::{records_fit, sources_fit};
-use crate::{
-    FUEL_LIMIT, left_of, optional_text_fits, optional_texts_fit, text_fits, texts_fit,
-};
+use crate::{FUEL_LIMIT, left_of, optional_text_fits, optional_texts_fit, text_fits, texts_fit};
 
 /// The most tokens of a bucket.
 const CAPACITY_LIMIT: u64 = 500_000_000;

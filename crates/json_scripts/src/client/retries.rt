@@ -9,9 +9,9 @@ ghost use Rattle.json_scripts.specs.Client.Retries.{classifiers_at};
 use crate::client::terms::{ClassifierChoice, RetryChoice};
 use json_forms::forms::{read_tagged, says};
 use json_forms::{ReadError, Value, read};
+use json_values::setting::read_retry;
 use smithy_types::List;
 use std::alloc::Global;
-use json_values::setting::read_retry;
 
 /// How a client retries.
 #[tactic(auto, unfolding(crate::specs::Client::Retries::retry_choice_at))]

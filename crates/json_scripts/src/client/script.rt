@@ -10,8 +10,8 @@ use crate::client::client::read_clients;
 use crate::client::invocation::read_invocations;
 use crate::client::members::exact_members;
 use crate::client::terms::{BucketTerms, ClientObject, InvocationRecord};
-use json_forms::{Arena, ReadError, Value, read};
 use crate::read_words;
+use json_forms::{Arena, ReadError, Value, read};
 use smithy_types::List;
 use std::alloc::Global;
 

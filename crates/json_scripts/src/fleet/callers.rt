@@ -6,11 +6,11 @@ ghost use Rattle.json_forms.specs.Reading.{Reads};
 ghost use Rattle.json_scripts.specs.Fleet.Callers.{caller_run_at, caller_runs_at, caller_at, callers_at};
 ghost use Rattle.json_scripts.specs.Fleet.Callers.{some_of};
 
-use crate::fleet::terms::CallerRecord;
 use crate::client::InvocationRecord;
 use crate::client::client::read_client;
 use crate::client::invocation::read_run;
 use crate::client::members::exact_members;
+use crate::fleet::terms::CallerRecord;
 use json_forms::{ReadError, Value, read};
 use smithy_types::List;
 use std::alloc::Global;

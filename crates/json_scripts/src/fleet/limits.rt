@@ -4,9 +4,9 @@ ghost use Rattle.std.specs.List.{list_all};
 ghost use Rattle.json_scripts.specs.Fleet.Limits.{caller_fits, caller_fuel, caller_runs};
 ghost use Rattle.json_scripts.specs.Fleet.Limits.{fleet_script_fits};
 
-use crate::fleet::terms::{CallerRecord, FleetScript};
 use crate::client::limits::{fuel_left, invocations_fit};
 use crate::client::{capacity_fits, client_fits};
+use crate::fleet::terms::{CallerRecord, FleetScript};
 use crate::{FUEL_LIMIT, left_of};
 
 /// The most callers of a script.

@@ -5,12 +5,12 @@ ghost use Rattle.json_forms.specs.Reading.{Reads};
 ghost use Rattle.json_scripts.specs.Fleet.Placed.{IsPlaced};
 ghost use Rattle.json_scripts.specs.Fleet.Script.{fleet_script_at, IsFleetScript};
 
-use crate::fleet::callers::read_callers;
-use crate::fleet::terms::FleetScript;
 use crate::client::buckets::read_bucket_terms;
 use crate::client::members::exact_members;
-use json_forms::{Arena, ReadError, Value, read};
+use crate::fleet::callers::read_callers;
+use crate::fleet::terms::FleetScript;
 use crate::read_words;
+use json_forms::{Arena, ReadError, Value, read};
 use std::alloc::Global;
 
 /// How many members a script has.

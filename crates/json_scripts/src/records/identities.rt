@@ -9,10 +9,10 @@ ghost use Rattle.json_scripts.specs.Records.Identities.{sources_at};
 
 use json_forms::forms::read_word;
 use json_forms::{ReadError, Value, read};
+use json_values::http::read_identity;
 use outside_scripted::{IdentityAnswer, IdentityRecord};
 use smithy_types::List;
 use std::alloc::Global;
-use json_values::http::read_identity;
 
 // A load that fails, with its text.
 #[tactic(auto, unfolding(crate::specs::Records::Identities::failed_identity_at))]

@@ -9,11 +9,11 @@ ghost use Rattle.json_scripts.specs.Records.Responses.{response_record_at, recor
 
 use json_forms::forms::{read_blob, read_optional_number, read_word};
 use json_forms::{ReadError, Value, read};
+use json_values::fault::read_connector_kind;
+use json_values::http::read_headers;
 use outside_scripted::{Frame, RecordAnswer, ResponseRecord, ScriptedResponse};
 use smithy_types::List;
 use std::alloc::Global;
-use json_values::fault::read_connector_kind;
-use json_values::http::read_headers;
 
 // A frame: its delay and its bytes.
 #[tactic(auto, unfolding(crate::specs::Records::Responses::frame_at))]

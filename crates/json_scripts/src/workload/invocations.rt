@@ -5,10 +5,10 @@ ghost use Rattle.json_scripts.specs.Workload.Made.{available, made_invocation, m
 ghost use Rattle.json_scripts.specs.Workload.Made.{response_at_once, unavailable};
 
 use crate::client::InvocationRecord;
+use outside_scripted::{Frame, RecordAnswer, ResponseRecord, ScriptedResponse};
 use rand_core::SeedableRng;
 use rand_core::utils::NextWord;
 use rand_pcg::Pcg64;
-use outside_scripted::{Frame, RecordAnswer, ResponseRecord, ScriptedResponse};
 use smithy_types::{Blob, Headers, List, OutOfMemory, Payload, StopPoint};
 use std::alloc::Global;
 

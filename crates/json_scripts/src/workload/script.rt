@@ -4,9 +4,9 @@ ghost use Rattle.json_scripts.specs.Client.Limits.{client_script_fits};
 ghost use Rattle.json_scripts.specs.Client.Placed.{IsPlaced};
 ghost use Rattle.json_scripts.specs.Workload.Made.{made_bucket, made_script};
 
+use crate::client::{BucketTerms, ClientScript};
 use crate::workload::client::made_client;
 use crate::workload::invocations::made_invocations;
-use crate::client::{BucketTerms, ClientScript};
 use smithy_types::{List, OutOfMemory};
 use std::alloc::Global;
 

@@ -12,9 +12,9 @@ ghost use Rattle.laws_client.specs.Questions.OwnLoads.{ChoicesGoOnWithOwn};
 
 use auth_endpoint::AuthScheme;
 use client_auth::{DeserializeResponse, SerializeRequest};
+use client_retries::TakeOffer;
 use identity_cell::ResolveIdentity;
 use outside::Outside;
-use client_retries::TakeOffer;
 use retry_policy::ClassifyRetry;
 use retry_quota::Quota;
 
