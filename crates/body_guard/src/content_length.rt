@@ -136,6 +136,3 @@ impl<B: PolledBody> PolledBody for ContentLengthEnforcingBody<B> {
         self.body.size_hint()
     }
 }
-
-#[cfg(test)]
-mod tests;

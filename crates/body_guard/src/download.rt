@@ -112,6 +112,3 @@ fn passed(inner: Polled, said: Result<GraceAnswer, OutOfMemory>) -> Result<Polle
         Err(refusal) => Err(refusal),
     }
 }
-
-#[cfg(test)]
-mod tests;

@@ -47,6 +47,3 @@ fn read_length(value: &HeaderValue) -> Result<Option<u64>, LengthFault>
         Err(_) => Err(LengthFault::NotANumber),
     }
 }
-
-#[cfg(test)]
-mod tests;

@@ -13,8 +13,6 @@ pub mod length;
 pub mod polled;
 mod rates;
 pub mod stalled_stream;
-#[cfg(test)]
-mod testing;
 pub mod upload;
 
 pub use content_length::{ContentLengthEnforcingBody, ContentLengthError};

@@ -228,6 +228,3 @@ pub(crate) fn sets(alloc: Global, setting: Setting) -> Result<HookAnswer, OutOfM
         failure: None,
     })
 }
-
-#[cfg(test)]
-mod tests;

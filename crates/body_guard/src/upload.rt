@@ -247,6 +247,3 @@ fn is_enabled(stall: StalledStreamProtectionConfig) -> bool
 {
     stall.upload || stall.download
 }
-
-#[cfg(test)]
-mod tests;

@@ -12,5 +12,3 @@ pub mod source;
 pub mod standard;
 pub mod status;
 pub mod streams;
-#[cfg(test)]
-mod tests;

@@ -14,6 +14,3 @@ pub mod read;
 pub use crate::printing::{Json, Row};
 pub use arena::{Arena, Value};
 pub use read::ReadError;
-
-#[cfg(test)]
-mod tests;

@@ -23,6 +23,3 @@ pub use rows::{Row, service};
 pub use scripted_outside::ScriptedOutside;
 pub use sleeps::Sleeps;
 pub use words::Words;
-
-#[cfg(test)]
-mod tests;

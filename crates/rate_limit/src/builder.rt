@@ -129,6 +129,3 @@ impl Default for ClientRateLimiterBuilder {
         ClientRateLimiterBuilder::new()
     }
 }
-
-#[cfg(test)]
-mod tests;

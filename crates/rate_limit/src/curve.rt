@@ -73,6 +73,3 @@ fn risen_rate(last_max: u64, late: u128) -> u64
     let rise = four_cubes(late) / CURVE_SCALE;
     (rise + u128::from(last_max)).min(MOST) as u64
 }
-
-#[cfg(test)]
-mod tests;

@@ -348,6 +348,3 @@ impl Limiter for ClientRateLimiter {
         ClientRateLimiter::update(self, now, throttled);
     }
 }
-
-#[cfg(test)]
-mod tests;

@@ -60,6 +60,3 @@ impl Hash for ClientRateLimiterPartition {
         self.retry_partition.hash(state);
     }
 }
-
-#[cfg(test)]
-mod tests;

@@ -36,6 +36,3 @@ fn has_cube_within(root: u64, n: u128) -> bool
     let root = u128::from(root);
     root * root * root <= n
 }
-
-#[cfg(test)]
-mod tests;

@@ -8,6 +8,3 @@ mod steps;
 
 pub use shared_bucket::SharedBucket;
 pub use shared_quota::SharedQuota;
-
-#[cfg(test)]
-mod tests;

@@ -33,6 +33,3 @@ pub use smithy_types::{
     RetryPartitionBuilder, RetrySpec, RetrySpecVersion, SdkError, Shared,
     StalledStreamProtectionConfig, StopPoint, Sums, Text, TimeoutConfig, Timers, TimersCall, Wire,
 };
-
-#[cfg(test)]
-mod tests;

@@ -210,39 +210,3 @@ impl MinimumThroughputBodyOptionsBuilder {
         }
     }
 }
-
-#[cfg(test)]
-mod tests {
-    use super::*;
-    use crate::ThroughputReport;
-
-    #[test]
-    fn a_part_that_is_not_set_has_its_default(rt: HostRuntime) {
-        let options = MinimumThroughputBodyOptions::builder().build();
-        assert_eq!(rt; options.grace_period(), 20_000_000_000);
-        assert_eq!(rt;
-            options.minimum_throughput(),
-            Throughput::new_bytes_per_second(1)
-        );
-        assert_eq!(rt; options.check_interval(), 500_000_000);
-        let mut builder = options.to_builder().grace_period(3).check_interval(4);
-        let rate = Throughput::new_bytes_per_second(7);
-        builder
-            .set_grace_period(None)
-            .set_minimum_throughput(Some(rate))
-            .set_check_interval(Some(1));
-        let built = builder.build();
-        assert_eq!(rt; built.grace_period(), 20_000_000_000);
-        assert_eq!(rt; built.minimum_throughput(), rate);
-        let config = StalledStreamProtectionConfig {
-            upload: true,
-            download: true,
-            grace_period: 5,
-        };
-        let from = MinimumThroughputBodyOptions::from(config);
-        assert_eq!(rt; from.grace_period(), 5);
-        let mut log = MinimumThroughputBodyOptions::default().start_log(0);
-        assert_eq!(rt; log.report(899_999_999), ThroughputReport::Incomplete);
-        assert_eq!(rt; log.report(900_000_000), ThroughputReport::NoPolling);
-    }
-}

@@ -19,6 +19,3 @@ pub use orchestrator::WaiterOrchestrator;
 pub use outcome::{FinalPoll, WaiterError};
 pub use smithy_types::{AcceptorState, BuildError, Part};
 pub use timers::{PollAnswer, WaiterCall, WaiterTimers};
-
-#[cfg(test)]
-mod tests;
