@@ -4,9 +4,9 @@
 
 ghost use Rattle.std.specs.Prelude.{◌≡◌};
 ghost use Rattle.example_forecast.specs.Forecasts.Model.{error_of, is_error, is_sky, sky_of};
-ghost use Rattle.orchestrate.specs.Answered.{InputAnswered};
-ghost use Rattle.orchestrate.specs.Growth.{GrewByAtMost};
-ghost use Rattle.text_payloads.specs.Text.{is_text};
+ghost use Rattle.smithy_runtime.specs.Answered.{InputAnswered};
+ghost use Rattle.smithy_runtime.specs.Growth.{GrewByAtMost};
+ghost use Rattle.smithy_runtime.specs.Text.{is_text};
 
 mod forecasts;
 
@@ -15,18 +15,12 @@ use crate::forecasts::{
     Sky,
 };
 use anyhow::Result;
-use auth_endpoint::NoAuthScheme;
-use client_builder::{IdentityResolver, OperationBuilder, Scheme, added, refusal_of};
-use client_components::RuntimeComponents;
-use client_retries::TakeOffer;
-use identity_cell::NoAuthIdentityResolver;
-use orchestrate::{InvokeError, Operation};
-use outside::Outside;
-use outside_scripted::{Row, service};
-use rate_limit::ClientRateLimiter;
-use retry_policy::{Classifier, ClassifyRetry, ModeledAsRetryableClassifier};
-use retry_quota::{Quota, Registry};
-use smithy_types::{RetryConfig, Text, TimeoutConfig, Timers};
+use smithy_runtime::{
+    Classifier, ClassifyRetry, ClientRateLimiter, IdentityResolver, InvokeError,
+    ModeledAsRetryableClassifier, NoAuthIdentityResolver, NoAuthScheme, Operation,
+    OperationBuilder, Outside, Quota, Registry, RetryConfig, Row, RuntimeComponents, Scheme,
+    TakeOffer, Text, TimeoutConfig, Timers, added, refusal_of, service,
+};
 use std::alloc::Global;
 
 /// The service's name, by which its retries share a bucket.

@@ -1,8 +1,8 @@
 -- Which payloads the values of the service's model are.
 use Rattle.std.specs.Prelude.{ℕ, Bool, ◌&&◌, ◌||◌, ◌==◌, if◌then◌else◌, List, Option, None, Some, codes, bytes_eq}
-use Rattle.smithy_types.specs.declared.kinds.ErrorKind.{ErrorKind}
-use Rattle.smithy_types.specs.declared.kinds.ErrorKind.TheVariants.{ServerError}
-use Rattle.smithy_types.specs.declared.payload.Payload.{Payload}
+use Rattle.smithy_runtime.specs.Types.ErrorKind.{ErrorKind}
+use Rattle.smithy_runtime.specs.Types.ErrorKind.TheVariants.{ServerError}
+use Rattle.smithy_runtime.specs.Types.Payload.{Payload}
 use Rattle.example_forecast.specs.declared.forecasts.model.ForecastError.{ForecastError}
 use Rattle.example_forecast.specs.declared.forecasts.model.ForecastError.TheVariants.{StationAsleep, NoSuchStation}
 use Rattle.example_forecast.specs.declared.forecasts.model.Sky.{Sky}

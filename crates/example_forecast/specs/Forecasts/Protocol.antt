@@ -1,13 +1,13 @@
 -- The service's protocol: an input is posted to the operation's path, with its payload's bytes as the body.
 use Rattle.std.specs.Prelude.{ℕ, Bool, ◌||◌, ◌==◌, if◌then◌else◌, List, [], codes}
-use Rattle.client_auth.specs.Responses.{body_bytes}
-use Rattle.smithy_types.specs.declared.fault.Outcome.{Outcome}
-use Rattle.smithy_types.specs.declared.fault.Outcome.TheVariants.{Output, Failed}
-use Rattle.smithy_types.specs.declared.fault.FaultKind.TheVariants as fault
-use Rattle.smithy_types.specs.declared.http.Body.TheVariants.{Bytes}
-use Rattle.smithy_types.specs.declared.http.HttpRequest.{HttpRequest}
-use Rattle.smithy_types.specs.declared.http.HttpResponse.{HttpResponse}
-use Rattle.smithy_types.specs.declared.payload.Payload.{Payload}
+use Rattle.smithy_runtime.specs.Responses.{body_bytes}
+use Rattle.smithy_runtime.specs.Types.Outcome.{Outcome}
+use Rattle.smithy_runtime.specs.Types.Outcome.TheVariants.{Output, Failed}
+use Rattle.smithy_runtime.specs.Types.FaultKind.TheVariants as fault
+use Rattle.smithy_runtime.specs.Types.Body.TheVariants.{Bytes}
+use Rattle.smithy_runtime.specs.Types.HttpRequest.{HttpRequest}
+use Rattle.smithy_runtime.specs.Types.HttpResponse.{HttpResponse}
+use Rattle.smithy_runtime.specs.Types.Payload.{Payload}
 
 abbrev pub posted : Payload → HttpRequest
 posted input = record { method = codes "POST"; uri = codes "/get-forecast"; headers = []; body = Bytes input.bytes }

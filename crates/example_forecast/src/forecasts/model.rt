@@ -1,6 +1,6 @@
 //! The service's model: what its operation takes and answers, and the error of its own.
 
-use smithy_types::Text;
+use smithy_runtime::Text;
 use thiserror::Error;
 
 /// The input of `GetForecast`.

@@ -11,9 +11,10 @@ ghost use Rattle.example_forecast.specs.Forecasts.Model.{
 };
 
 use crate::forecasts::model::{ForecastError, GetForecastInput, GetForecastOutput, Sky};
-use smithy_types::{Blob, ErrorKind, OutOfMemory, Payload, ProvideErrorKind, Wire};
+use smithy_runtime::{
+    Blob, ErrorKind, OutOfMemory, Payload, ProvideErrorKind, Wire, read_text, text_payload,
+};
 use std::alloc::Global;
-use text_payloads::{read_text, text_payload};
 
 /// The kind of an input.
 pub const GET_FORECAST_INPUT: u32 = 1;
@@ -27,7 +28,7 @@ pub const ERROR: u32 = 3;
 impl Wire for GetForecastInput {
     ghost use Rattle.std.specs.Prelude.{◌≡◌};
     ghost use Rattle.std.proofs.Common.{◌∙◌, sym};
-    ghost use Rattle.text_payloads.specs.Text.{is_text};
+    ghost use Rattle.smithy_runtime.specs.Text.{is_text};
 
     ghost accepts = { is_text 1 };
 

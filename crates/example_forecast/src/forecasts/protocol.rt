@@ -3,11 +3,9 @@ ghost use Rattle.std.specs.Prelude.{◌≡◌, IfOk};
 ghost use Rattle.example_forecast.specs.Forecasts.Protocol.{is_modelled, read_outcome};
 
 use crate::forecasts::payloads::{ERROR, GET_FORECAST_OUTPUT};
-use client_auth::responses::{body_bytes, failed};
-use client_auth::{DeserializeResponse, SerializeRequest, Serialized};
-use smithy_context::Settings;
-use smithy_types::{
-    Body, FaultKind, Headers, HttpRequest, HttpResponse, OutOfMemory, Outcome, Payload, Text,
+use smithy_runtime::{
+    Body, DeserializeResponse, FaultKind, Headers, HttpRequest, HttpResponse, OutOfMemory, Outcome,
+    Payload, SerializeRequest, Serialized, Settings, Text, body_bytes, failed,
 };
 use std::alloc::Global;
 
@@ -17,7 +15,7 @@ pub struct ForecastSerializer;
 
 impl SerializeRequest for ForecastSerializer {
     ghost use Rattle.std.specs.Prelude.{◌≡◌};
-    ghost use Rattle.client_auth.specs.declared.serializer.Serialized.TheVariants.{Request};
+    ghost use Rattle.smithy_runtime.specs.Types.Serialized.TheVariants.{Request};
     ghost use Rattle.example_forecast.specs.Forecasts.Protocol.{posted};
 
     ghost serializes = { λ _ input _ serialized. serialized ≡ Request (posted input) };
