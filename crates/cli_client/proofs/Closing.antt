@@ -4,11 +4,11 @@ use Rattle.cli_client.specs.Client.{IsToldOf, PlaysScript}
 use Rattle.cli_client.specs.Report.{Reports}
 use Rattle.cli_client.specs.declared.report.Report.{Report}
 use Rattle.cli_client.specs.Means.{NoClassifier, NoInterceptor, none, OwnServed, own_chain, own_ranked, own_says}
-use Rattle.cli_client.specs.Runs.Means.{ServedBy}
+use Rattle.cli_client_runs.specs.Means.{ServedBy}
 use Rattle.cli_client.specs.Opening.{IsOpened}
-use Rattle.cli_client.specs.declared.runs.set.ClientSet.{ClientSet}
+use Rattle.cli_client_runs.specs.declared.set.ClientSet.{ClientSet}
 use Rattle.json_scripts.specs.declared.client.script.ClientScript.{ClientScript}
-use Rattle.cli_client.specs.declared.service.error.ServiceError.{ServiceError}
+use Rattle.client_scripted.specs.declared.service.error.ServiceError.{ServiceError}
 use Rattle.client_builder.specs.declared.own_interceptor.OwnInterceptor.{OwnInterceptor}
 use Rattle.client_retries.specs.Meanings.{InterceptorMeans}
 use Rattle.retry_policy.specs.declared.classify.Classifier.{Classifier}

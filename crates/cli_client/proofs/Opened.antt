@@ -2,18 +2,18 @@
 use Rattle.std.proofs.Common.{◌≡◌, ℕ, ℤ, List, [], subst, sym}
 use Rattle.std.specs.Prelude.{None}
 use Rattle.cli_client.specs.Opening.{IsOpened, outside_at, quota_of}
-use Rattle.cli_client.specs.declared.runs.set.ClientSet.{ClientSet}
+use Rattle.cli_client_runs.specs.declared.set.ClientSet.{ClientSet}
 use Rattle.json_scripts.specs.declared.client.terms.BucketTerms.{BucketTerms}
 use Rattle.json_scripts.specs.declared.client.terms.ClientObject.{ClientObject}
-use Rattle.cli_client.specs.declared.service.error.ServiceError.{ServiceError}
+use Rattle.client_scripted.specs.declared.service.error.ServiceError.{ServiceError}
 use Rattle.client_builder.specs.declared.own_interceptor.OwnInterceptor.{OwnInterceptor}
 use Rattle.rate_limit.specs.Pace.{Pace}
 use Rattle.retry_policy.specs.declared.classify.Classifier.{Classifier}
 use Rattle.retry_quota.specs.Registers.{Registers}
 use Rattle.outside_scripted.specs.declared.call.OpenCall.TheVariants.{Idle}
 use Rattle.outside_scripted.specs.declared.scripted_outside.ScriptedOutside.{ScriptedOutside}
-use Rattle.cli_client.specs.Scripted.Clients.{AreBuilt}
-use Rattle.cli_client.specs.declared.scripted.client.ScriptedClient.{ScriptedClient}
+use Rattle.client_scripted.specs.Clients.{AreBuilt}
+use Rattle.client_scripted.specs.declared.client.ScriptedClient.{ScriptedClient}
 use Rattle.smithy_base.specs.declared.intercept.Slot.{Slot}
 
 -- an outside with nothing in it

@@ -1,11 +1,11 @@
 -- One invocation more is counted.
 use Rattle.std.proofs.Common.{◌≡◌, ◌∙◌, refl, sym, ap, ℕ, ◌+◌, cond, List, [], ◌∷◌, ◌++◌, length, map, arith}
 use Rattle.std.proofs.lemmas.List.{length-set}
-use Rattle.cli_client.specs.Runs.Running.{InvokedIn, Ran, Runs}
-use Rattle.cli_client.specs.declared.runs.set.ClientSet.{ClientSet}
+use Rattle.cli_client_runs.specs.Running.{InvokedIn, Ran, Runs}
+use Rattle.cli_client_runs.specs.declared.set.ClientSet.{ClientSet}
 use Rattle.json_scripts.specs.declared.client.terms.InvocationRecord.{InvocationRecord}
 use Rattle.run_grammar.specs.declared.answer.Entry.{Entry}
-use Rattle.cli_client.specs.Scripted.Clients.{ServiceWorld}
+use Rattle.client_scripted.specs.Clients.{ServiceWorld}
 use Rattle.smithy_types.proofs.ChainLemmas.{chained_more}
 use Rattle.smithy_types.specs.Chain.{Chained}
 use Rattle.cli_client.specs.Tally.{Tallies, TalliesOne, calls_in, errors_in, is_output, outputs_in}

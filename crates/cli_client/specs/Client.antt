@@ -1,14 +1,14 @@
 -- What `client` says of its input.
 use Rattle.std.specs.Prelude.{ℕ, ℤ, ◌≡◌, ◌≤◌, ◌<◌, true, false, List}
-use Rattle.cli_client.specs.declared.runs.set.ClientSet.{ClientSet}
+use Rattle.cli_client_runs.specs.declared.set.ClientSet.{ClientSet}
 use Rattle.json_scripts.specs.Client.Limits.{client_script_fits}
 use Rattle.json_scripts.specs.Client.Script.{IsClientScript}
 use Rattle.json_scripts.specs.declared.client.script.ClientScript.{ClientScript}
-use Rattle.cli_client.specs.declared.service.error.ServiceError.{ServiceError}
+use Rattle.client_scripted.specs.declared.service.error.ServiceError.{ServiceError}
 use Rattle.client_builder.specs.declared.own_interceptor.OwnInterceptor.{OwnInterceptor}
 use Rattle.retry_policy.specs.declared.classify.Classifier.{Classifier}
 use Rattle.run_grammar.specs.declared.answer.Entry.{Entry}
-use Rattle.cli_client.specs.Scripted.Clients.{ServiceWorld}
+use Rattle.client_scripted.specs.Clients.{ServiceWorld}
 use Rattle.smithy_base.specs.declared.intercept.Slot.{Slot}
 use Rattle.cli_shell.specs.Said.{Said, prints, refuses}
 use Rattle.cli_shell.specs.declared.status.PrintStatus.{PrintStatus}

@@ -3,6 +3,3 @@ pub mod Opening
 pub mod Tally
 pub mod Report
 pub mod Client
-pub mod Runs
-pub mod Service
-pub mod Scripted

@@ -1,9 +1,9 @@
 -- What the classifiers and interceptors of the program's clients mean. No client holds a box, so it doesn't matter what a box
 -- would say.
 use Rattle.std.specs.Prelude.{◌≡◌, ◌⊎◌, ℕ, ℤ, pos, Bool, true, List, []}
-use Rattle.cli_client.specs.Runs.Means.{ServedBy}
-use Rattle.cli_client.specs.Service.Service.{kind_of_error}
-use Rattle.cli_client.specs.declared.service.error.ServiceError.{ServiceError}
+use Rattle.cli_client_runs.specs.Means.{ServedBy}
+use Rattle.client_scripted.specs.Service.Service.{kind_of_error}
+use Rattle.client_scripted.specs.declared.service.error.ServiceError.{ServiceError}
 use Rattle.client_builder.specs.Own.{OwnRuns, own_hooks, own_names, own_with_bucket, own_with_verdict}
 use Rattle.client_builder.specs.declared.own_interceptor.OwnInterceptor.{OwnInterceptor}
 use Rattle.client_retries.specs.Meanings.{InterceptorMeans}
@@ -11,7 +11,7 @@ use Rattle.retry_policy.specs.Classifying.{modeled_says, status_says, transient_
 use Rattle.retry_policy.specs.declared.classify.Classifier.{Classifier}
 use Rattle.retry_policy.specs.declared.classify.Classifier.TheVariants.{HttpStatusCode, ModeledAsRetryable, TransientError, Boxed}
 use Rattle.run_grammar.specs.declared.answer.Entry.{Entry}
-use Rattle.cli_client.specs.Scripted.Clients.{ServiceWorld}
+use Rattle.client_scripted.specs.Clients.{ServiceWorld}
 use Rattle.smithy_base.specs.declared.intercept.Slot.{Slot}
 use Rattle.smithy_base.specs.declared.intercept.Slot.TheVariants as slots
 use Rattle.smithy_context.specs.declared.context.InterceptorContext.{InterceptorContext}

@@ -1,13 +1,13 @@
 -- What is told of a script's invocations.
 use Rattle.std.specs.Prelude.{◌≡◌, ℕ, List, [], ◌∷◌, Option, option_map, slice_get, codes}
-use Rattle.cli_client.specs.Runs.Running.{Plays}
-use Rattle.cli_client.specs.declared.runs.set.ClientSet.{ClientSet}
+use Rattle.cli_client_runs.specs.Running.{Plays}
+use Rattle.cli_client_runs.specs.declared.set.ClientSet.{ClientSet}
 use Rattle.json_scripts.specs.declared.client.terms.InvocationRecord.{InvocationRecord}
 use Rattle.json_forms.specs.Prints.{row, num, null_or}
 use Rattle.retry_quota.specs.Book.{sums_of}
 use Rattle.run_grammar.specs.declared.answer.Entry.{Entry}
 use Rattle.json_print.specs.Print.{line}
-use Rattle.cli_client.specs.Scripted.Clients.{ServiceWorld}
+use Rattle.client_scripted.specs.Clients.{ServiceWorld}
 use Rattle.serde_json.specs.Data.{Data, string}
 use Rattle.cli_shell.specs.declared.status.PrintStatus.{PrintStatus}
 use Rattle.cli_shell.specs.declared.status.PrintStatus.TheVariants as outcomes

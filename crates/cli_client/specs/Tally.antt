@@ -1,12 +1,12 @@
 -- How invocations came out, counted.
 use Rattle.std.specs.Prelude.{◌≡◌, ℕ, ◌+◌, Bool, true, false, cond, List, [], ◌∷◌, map, length}
-use Rattle.cli_client.specs.Runs.Running.{InvokedIn, Ran, Runs}
-use Rattle.cli_client.specs.declared.runs.set.ClientSet.{ClientSet}
+use Rattle.cli_client_runs.specs.Running.{InvokedIn, Ran, Runs}
+use Rattle.cli_client_runs.specs.declared.set.ClientSet.{ClientSet}
 use Rattle.json_scripts.specs.declared.client.terms.InvocationRecord.{InvocationRecord}
 use Rattle.run_grammar.specs.declared.answer.Entry.{Entry}
 use Rattle.json_print.specs.declared.ending.Ending.{Ending}
 use Rattle.json_print.specs.declared.ending.Ending.TheVariants as endings
-use Rattle.cli_client.specs.Scripted.Clients.{ServiceWorld}
+use Rattle.client_scripted.specs.Clients.{ServiceWorld}
 use Rattle.smithy_types.specs.Chain.{Chained}
 use Rattle.cli_client.specs.declared.tally.Tally.{Tally}
 

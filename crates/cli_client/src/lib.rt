@@ -6,9 +6,6 @@ pub mod make;
 pub mod opening;
 pub mod play;
 pub mod report;
-pub mod runs;
-pub mod scripted;
-pub mod service;
 pub mod tally;
 
 pub use client::ClientCommand;

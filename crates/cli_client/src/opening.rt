@@ -2,7 +2,7 @@
 ghost use Rattle.std.specs.Prelude.{◌≡◌, IfOk};
 ghost use Rattle.cli_client.specs.Opening.{quota_of};
 
-use crate::scripted::{ClientQuota, bucket_of};
+use client_scripted::{ClientQuota, bucket_of};
 use json_scripts::client::BucketTerms;
 use retry_quota::Registry;
 use smithy_types::OutOfMemory;

@@ -6,9 +6,9 @@ ghost use Rattle.json_scripts.specs.Client.Placed.{IsPlaced};
 
 use crate::opening::open_quota;
 use crate::report::{Report, report_on};
-use crate::runs::ClientSet;
-use crate::scripted::build_clients;
+use cli_client_runs::ClientSet;
 use cli_shell::status::PrintStatus;
+use client_scripted::build_clients;
 use json_scripts::client::ClientScript;
 use outside_scripted::ScriptedOutside;
 use smithy_types::OutOfMemory;

@@ -1,18 +1,18 @@
 //! What is told of a script's invocations.
 ghost use Rattle.std.specs.Prelude.{◌≡◌, All, length, option_map, slice_get, IfOk};
-ghost use Rattle.cli_client.specs.Runs.Means.{ServedBy};
+ghost use Rattle.cli_client_runs.specs.Means.{ServedBy};
 ghost use Rattle.json_scripts.specs.Client.Placed.{HasClient};
 ghost use Rattle.json_forms.specs.JsonData.{data_of};
 ghost use Rattle.retry_quota.specs.Book.{sums_of};
 ghost use Rattle.json_print.specs.Print.{line};
 ghost use Rattle.cli_client.specs.Report.{Counts, Reports, made_data};
 
-use crate::runs::ClientSet;
-use crate::runs::print::sums_of;
-use crate::scripted::ClientQuota;
 use crate::tally::{Tally, count_runs};
+use cli_client_runs::ClientSet;
+use cli_client_runs::print::sums_of;
 use cli_shell::status::PrintStatus;
 use client_retries::TakeOffer;
+use client_scripted::ClientQuota;
 use json_forms::{Json, Row};
 use json_scripts::client::InvocationRecord;
 use json_values::note::print_optional_sums;

@@ -1,11 +1,11 @@
 //! Invocations are counted by how they come out.
 ghost use Rattle.std.specs.Prelude.{◌≡◌, ◌<◌, ◌+◌, All, cond, length, IfOk};
-ghost use Rattle.cli_client.specs.Runs.Means.{ServedBy};
-ghost use Rattle.cli_client.specs.Runs.Running.{InvokedIn};
+ghost use Rattle.cli_client_runs.specs.Means.{ServedBy};
+ghost use Rattle.cli_client_runs.specs.Running.{InvokedIn};
 ghost use Rattle.json_scripts.specs.Client.Placed.{HasClient};
 ghost use Rattle.cli_client.specs.Tally.{Tallies, TalliesOne, is_output};
 
-use crate::runs::ClientSet;
+use cli_client_runs::ClientSet;
 use client_retries::TakeOffer;
 use json_print::Ending;
 use json_scripts::client::InvocationRecord;

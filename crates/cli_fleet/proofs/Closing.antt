@@ -7,7 +7,7 @@ use Rattle.retry_quota_cell.specs.Known.{IsOf, Known, Place}
 use Rattle.cli_client.proofs.Closing.{Intercepts, Ranks, Says, all_says, any_kind, one_chain, ranks}
 use Rattle.cli_client.specs.Means.{none, own_chain, own_ranked, own_says}
 use Rattle.cli_client.specs.Opening.{outside_at}
-use Rattle.cli_client.specs.declared.service.error.ServiceError.{ServiceError}
+use Rattle.client_scripted.specs.declared.service.error.ServiceError.{ServiceError}
 use Rattle.client_builder.specs.Built.{IsBuiltFrom}
 use Rattle.client_builder.specs.declared.own_interceptor.OwnInterceptor.{OwnInterceptor}
 use Rattle.rate_limit.specs.Pace.{Pace, zero_pace}
@@ -17,8 +17,8 @@ use Rattle.retry_quota.specs.History.{Entry}
 use Rattle.retry_quota.specs.declared.permit.Permit.{Permit}
 use Rattle.outside_scripted.specs.declared.records.IdentityRecord.{IdentityRecord}
 use Rattle.outside_scripted.specs.declared.scripted_outside.ScriptedOutside.{ScriptedOutside}
-use Rattle.cli_client.specs.Scripted.Clients.{ServiceBuilder, builder_of}
-use Rattle.cli_client.specs.Scripted.Parts.{identities_of}
+use Rattle.client_scripted.specs.Clients.{ServiceBuilder, builder_of}
+use Rattle.client_scripted.specs.Parts.{identities_of}
 use Rattle.cli_shell.specs.declared.status.PrintStatus.{PrintStatus}
 use Rattle.smithy_base.specs.declared.intercept.Slot.{Slot}
 use Rattle.smithy_context.specs.declared.context.InterceptorContext.{InterceptorContext}

@@ -12,8 +12,8 @@ use Rattle.rate_limit.specs.Pace.{Pace}
 use Rattle.retry_policy.specs.Decision.{releasing}
 use Rattle.retry_quota.specs.History as history
 use Rattle.retry_quota.specs.declared.permit.Permit.{Permit}
-use Rattle.cli_client.specs.Scripted.Clients.{builder_of}
-use Rattle.cli_client.specs.Scripted.Parts.{identities_of, strategy_of}
+use Rattle.client_scripted.specs.Clients.{builder_of}
+use Rattle.client_scripted.specs.Parts.{identities_of, strategy_of}
 use Rattle.cli_shell.specs.declared.status.PrintStatus.{PrintStatus}
 use Rattle.cli_fleet.specs.Steps.{AreOfDecisions, RunsSteps, steps_in}
 use Rattle.cli_fleet.specs.Working.{Worked}

@@ -1,13 +1,13 @@
 -- One invocation more.
 use Rattle.std.proofs.Common.{◌≡◌, ◌∙◌, refl, sym, ap, ℕ, ◌+◌, List, [], ◌∷◌, ◌++◌, length, map, append_assoc, append-nil, arith}
 use Rattle.std.specs.Prelude.{Option, None, Some}
-use Rattle.cli_client.proofs.runs.Running.{asked, length_more, map_more, text_more, text_nil}
-use Rattle.cli_client.specs.Runs.Print.{invocation_text}
-use Rattle.cli_client.specs.Runs.Running.{Ran, invocations_text}
+use Rattle.cli_client_runs.proofs.Running.{asked, length_more, map_more, text_more, text_nil}
+use Rattle.cli_client_runs.specs.Print.{invocation_text}
+use Rattle.cli_client_runs.specs.Running.{Ran, invocations_text}
 use Rattle.json_scripts.specs.declared.client.terms.InvocationRecord.{InvocationRecord}
-use Rattle.cli_client.specs.declared.service.deserializer.ServiceDeserializer.{ServiceDeserializer}
-use Rattle.cli_client.specs.declared.service.scheme.ServiceScheme.{ServiceScheme}
-use Rattle.cli_client.specs.declared.service.serializer.ServiceSerializer.{ServiceSerializer}
+use Rattle.client_scripted.specs.declared.service.deserializer.ServiceDeserializer.{ServiceDeserializer}
+use Rattle.client_scripted.specs.declared.service.scheme.ServiceScheme.{ServiceScheme}
+use Rattle.client_scripted.specs.declared.service.serializer.ServiceSerializer.{ServiceSerializer}
 use Rattle.client_components.specs.Serving.{Means}
 use Rattle.identity_cell.specs.declared.no_auth.NoAuthIdentityResolver.{NoAuthIdentityResolver}
 use Rattle.client_builder.specs.declared.scheme.IdentityResolver.{IdentityResolver}

@@ -5,11 +5,11 @@ use Rattle.std.proofs.Math.Dec.{eqb-suc-zero}
 use Rattle.retry_quota_cell.specs.Caller.{Caller}
 use Rattle.retry_quota_cell.specs.Callers.{own}
 use Rattle.retry_quota_cell.specs.Known.{Place}
-use Rattle.cli_client.specs.Runs.Invoking as invoking
-use Rattle.cli_client.specs.Runs.Running.{Ran}
-use Rattle.cli_client.specs.declared.service.deserializer.ServiceDeserializer.{ServiceDeserializer}
-use Rattle.cli_client.specs.declared.service.scheme.ServiceScheme.{ServiceScheme}
-use Rattle.cli_client.specs.declared.service.serializer.ServiceSerializer.{ServiceSerializer}
+use Rattle.cli_client_runs.specs.Invoking as invoking
+use Rattle.cli_client_runs.specs.Running.{Ran}
+use Rattle.client_scripted.specs.declared.service.deserializer.ServiceDeserializer.{ServiceDeserializer}
+use Rattle.client_scripted.specs.declared.service.scheme.ServiceScheme.{ServiceScheme}
+use Rattle.client_scripted.specs.declared.service.serializer.ServiceSerializer.{ServiceSerializer}
 use Rattle.client_components.specs.Retrying.{decided_view}
 use Rattle.client_components.specs.Serving.{Answers, Means, Served}
 use Rattle.identity_cell.specs.declared.no_auth.NoAuthIdentityResolver.{NoAuthIdentityResolver}

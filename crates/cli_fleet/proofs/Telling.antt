@@ -1,7 +1,7 @@
 -- The runs of a caller tell its steps.
 use Rattle.std.proofs.Common.{◌≡◌, ◌∙◌, refl, sym, ap, subst, ℕ, Bool, true, false, if◌then◌else◌, List, [], ◌∷◌, ◌++◌, append_assoc}
 use Rattle.std.specs.Prelude.{Option, None, Some, IfSome, Result, nat_le}
-use Rattle.cli_client.specs.Runs.Running.{Ran}
+use Rattle.cli_client_runs.specs.Running.{Ran}
 use Rattle.retry_policy.specs.Backoff.{is_v2_1}
 use Rattle.retry_policy.specs.Decision.{Case, Decided, asking, deciding, decision, held_on, paying, reason_for, refusing, releasing, retrying, settled, telling}
 use Rattle.retry_policy.specs.declared.standing.Paced.{Paced}

@@ -8,7 +8,7 @@ use Rattle.json_scripts.specs.declared.fleet.terms.CallerRecord.{CallerRecord}
 use Rattle.json_scripts.specs.declared.fleet.terms.FleetScript.{FleetScript}
 use Rattle.retry_quota.specs.Book.{sums_of}
 use Rattle.retry_quota.specs.History.{Entry, end_of}
-use Rattle.cli_client.specs.Scripted.Buckets.{book_of}
+use Rattle.client_scripted.specs.Buckets.{book_of}
 use Rattle.cli_shell.specs.Said.{Said, prints, refuses}
 use Rattle.cli_shell.specs.declared.status.PrintStatus.{PrintStatus}
 use Rattle.cli_shell.specs.declared.status.PrintStatus.TheVariants as outcomes

@@ -1,12 +1,12 @@
 -- The invocations of a caller's client, one after another.
 use Rattle.std.specs.Prelude.{◌≡◌, ℕ, List, [], ◌∷◌, ◌++◌, map, Option, None, Some}
-use Rattle.cli_client.specs.Runs.Invoking.{begun, head_by}
-use Rattle.cli_client.specs.Runs.Print.{invocation_text}
-use Rattle.cli_client.specs.Runs.Running.{Ran, invocations_text}
+use Rattle.cli_client_runs.specs.Invoking.{begun, head_by}
+use Rattle.cli_client_runs.specs.Print.{invocation_text}
+use Rattle.cli_client_runs.specs.Running.{Ran, invocations_text}
 use Rattle.json_scripts.specs.declared.client.terms.InvocationRecord.{InvocationRecord}
-use Rattle.cli_client.specs.declared.service.deserializer.ServiceDeserializer.{ServiceDeserializer}
-use Rattle.cli_client.specs.declared.service.scheme.ServiceScheme.{ServiceScheme}
-use Rattle.cli_client.specs.declared.service.serializer.ServiceSerializer.{ServiceSerializer}
+use Rattle.client_scripted.specs.declared.service.deserializer.ServiceDeserializer.{ServiceDeserializer}
+use Rattle.client_scripted.specs.declared.service.scheme.ServiceScheme.{ServiceScheme}
+use Rattle.client_scripted.specs.declared.service.serializer.ServiceSerializer.{ServiceSerializer}
 use Rattle.client_components.specs.Resting as resting
 use Rattle.client_components.specs.Serving.{Means, Served}
 use Rattle.identity_cell.specs.declared.no_auth.NoAuthIdentityResolver.{NoAuthIdentityResolver}

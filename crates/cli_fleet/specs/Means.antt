@@ -3,11 +3,11 @@ use Rattle.std.specs.Prelude.{◌≡◌, true, List, None}
 use Rattle.client_auth.specs.declared.serializer.Serialized.TheVariants as serialized
 use Rattle.retry_quota_cell.specs.Caller.{Caller, caller_meaning}
 use Rattle.retry_quota_cell.specs.Known.{Place}
-use Rattle.cli_client.specs.Runs.Means.{resolver_polls, scheme_names, scheme_signs}
-use Rattle.cli_client.specs.Service.Service.{posted, read_outcome}
-use Rattle.cli_client.specs.declared.service.deserializer.ServiceDeserializer.{ServiceDeserializer}
-use Rattle.cli_client.specs.declared.service.scheme.ServiceScheme.{ServiceScheme}
-use Rattle.cli_client.specs.declared.service.serializer.ServiceSerializer.{ServiceSerializer}
+use Rattle.cli_client_runs.specs.Means.{resolver_polls, scheme_names, scheme_signs}
+use Rattle.client_scripted.specs.Service.Service.{posted, read_outcome}
+use Rattle.client_scripted.specs.declared.service.deserializer.ServiceDeserializer.{ServiceDeserializer}
+use Rattle.client_scripted.specs.declared.service.scheme.ServiceScheme.{ServiceScheme}
+use Rattle.client_scripted.specs.declared.service.serializer.ServiceSerializer.{ServiceSerializer}
 use Rattle.client_components.specs.Serving.{Means, Served}
 use Rattle.client_components.specs.declared.parts.Parts.{Parts}
 use Rattle.client_components.specs.declared.world.RuntimeComponents.{RuntimeComponents}

@@ -1,7 +1,7 @@
 -- The print of callers, and of the bucket that they leave.
 use Rattle.std.specs.Prelude.{◌≡◌, ℕ, ◌+◌, List, [], ◌∷◌, ◌++◌, map, Option, None, Ok, Err, unwrap_or, codes}
 use Rattle.std.specs.List.{AllByRecursion}
-use Rattle.cli_client.specs.Runs.Print.{bucket_data}
+use Rattle.cli_client_runs.specs.Print.{bucket_data}
 use Rattle.json_forms.specs.Prints.{row, num}
 use Rattle.json_print.specs.Print.{line}
 use Rattle.serde_json.specs.Data.{Data, string}

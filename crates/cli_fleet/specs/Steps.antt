@@ -1,7 +1,7 @@
 -- The steps of the bucket that a caller makes are those of its decisions, and that of closing its strategy.
 use Rattle.std.specs.Prelude.{◌≡◌, ℕ, zero, suc, List, [], ◌∷◌, ◌++◌, Option, None, Some, IfSome, Result}
 use Rattle.retry_quota_cell.specs.Known.{Place}
-use Rattle.cli_client.specs.Runs.Running.{Ran}
+use Rattle.cli_client_runs.specs.Running.{Ran}
 use Rattle.client_retries.specs.Deciding.{paused_for}
 use Rattle.retry_policy.specs.Decision.{Case, Decided, cost_for, decision, releasing}
 use Rattle.retry_policy.specs.Standing.{standing_bucket, standing_retry}

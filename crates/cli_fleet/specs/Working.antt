@@ -7,10 +7,10 @@ use Rattle.cli_client.specs.Means.{none, own_chain, own_ranked, own_says}
 use Rattle.cli_client.specs.Opening.{outside_at}
 use Rattle.json_scripts.specs.declared.client.terms.ClientObject.{ClientObject}
 use Rattle.json_scripts.specs.declared.client.terms.InvocationRecord.{InvocationRecord}
-use Rattle.cli_client.specs.declared.service.deserializer.ServiceDeserializer.{ServiceDeserializer}
-use Rattle.cli_client.specs.declared.service.error.ServiceError.{ServiceError}
-use Rattle.cli_client.specs.declared.service.scheme.ServiceScheme.{ServiceScheme}
-use Rattle.cli_client.specs.declared.service.serializer.ServiceSerializer.{ServiceSerializer}
+use Rattle.client_scripted.specs.declared.service.deserializer.ServiceDeserializer.{ServiceDeserializer}
+use Rattle.client_scripted.specs.declared.service.error.ServiceError.{ServiceError}
+use Rattle.client_scripted.specs.declared.service.scheme.ServiceScheme.{ServiceScheme}
+use Rattle.client_scripted.specs.declared.service.serializer.ServiceSerializer.{ServiceSerializer}
 use Rattle.client_components.specs.Serving.{Means}
 use Rattle.identity_cell.specs.declared.no_auth.NoAuthIdentityResolver.{NoAuthIdentityResolver}
 use Rattle.client_builder.specs.Built.{IsBuiltFrom}
@@ -26,8 +26,8 @@ use Rattle.retry_quota.specs.History.{Entry}
 use Rattle.retry_quota.specs.declared.permit.Permit.{Permit}
 use Rattle.outside_scripted.specs.declared.records.IdentityRecord.{IdentityRecord}
 use Rattle.outside_scripted.specs.declared.scripted_outside.ScriptedOutside.{ScriptedOutside}
-use Rattle.cli_client.specs.Scripted.Clients.{builder_of}
-use Rattle.cli_client.specs.Scripted.Parts.{identities_of}
+use Rattle.client_scripted.specs.Clients.{builder_of}
+use Rattle.client_scripted.specs.Parts.{identities_of}
 use Rattle.cli_shell.specs.declared.status.PrintStatus.{PrintStatus}
 use Rattle.smithy_base.specs.declared.intercept.Slot.{Slot}
 use Rattle.smithy_context.specs.declared.context.InterceptorContext.{InterceptorContext}

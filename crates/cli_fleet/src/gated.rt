@@ -29,7 +29,7 @@ impl<'g, G: Gate> Model for GatedOutside<'g, G> {
 }
 
 impl<'g, G: Gate> GatedOutside<'g, G> {
-    ghost use Rattle.cli_client.specs.Runs.Invoking.{begun};
+    ghost use Rattle.cli_client_runs.specs.Invoking.{begun};
 
     /// The outside of this caller at its first moment, with these words. No call was made.
     pub fn new(

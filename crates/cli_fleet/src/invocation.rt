@@ -6,13 +6,13 @@ ghost use Rattle.cli_fleet.specs.Means.{world_means};
 
 use crate::gate::Gate;
 use crate::gated::GatedOutside;
-use cli_client::runs::invocation::head_of;
-use cli_client::runs::print::print_invocation;
-use cli_client::service::{ServiceDeserializer, ServiceScheme, ServiceSerializer};
+use cli_client_runs::invocation::head_of;
+use cli_client_runs::print::print_invocation;
 use cli_shell::status::PrintStatus;
 use client_builder::{IdentityResolver, Scheme};
 use client_components::RuntimeComponents;
 use client_retries::TakeOffer;
+use client_scripted::service::{ServiceDeserializer, ServiceScheme, ServiceSerializer};
 use identity_cell::NoAuthIdentityResolver;
 use json_print::Ending;
 use json_print::print::next_number;

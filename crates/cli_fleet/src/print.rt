@@ -7,7 +7,7 @@ ghost use Rattle.cli_fleet.specs.Print.{history_data, left_text, outcome_in, tex
 use crate::caller::{CallerState, FleetCaller};
 use crate::gate::Gate;
 use crate::work::Told;
-use cli_client::runs::print::print_bucket;
+use cli_client_runs::print::print_bucket;
 use cli_shell::status::PrintStatus;
 use json_forms::Json;
 use json_print::print::next_number;

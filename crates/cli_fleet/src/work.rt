@@ -11,9 +11,9 @@ ghost use Rattle.cli_fleet.specs.Working.{PlaysAll, Worked, caller_partition, pa
 use crate::gate::Gate;
 use crate::gated::GatedOutside;
 use crate::invocation::{CallerTarget, CallerWorld, run_all};
-use cli_client::scripted::client::{operation_of, prepare};
 use cli_shell::status::PrintStatus;
 use client_retries::TakeOffer;
+use client_scripted::client::{operation_of, prepare};
 use json_print::world::PayloadOperation;
 use json_scripts::client::{ClientObject, InvocationRecord};
 use outside_scripted::IdentityRecord;

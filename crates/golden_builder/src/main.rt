@@ -4,11 +4,11 @@
 
 use anyhow::Result;
 use auth_endpoint::{AuthScheme, NoAuthScheme};
-use cli_client::service::{ServiceDeserializer, ServiceError, ServiceSerializer};
 use client_auth::{DeserializeResponse, IdentitySource, SerializeRequest};
 use client_builder::{BuildRefusal, OperationBuilder, Plugin, added, refusal_of};
 use client_components::RuntimeComponents;
 use client_retries::TakeOffer;
+use client_scripted::service::{ServiceDeserializer, ServiceError, ServiceSerializer};
 use http_schemes::bearer::HTTP_BEARER_AUTH_SCHEME_ID;
 use http_schemes::{BearerAuthScheme, HttpIdentityResolver};
 use identity_cell::{IdentityCache, NoAuthIdentityResolver, ResolveIdentity};
@@ -85,7 +85,7 @@ struct HeadDeserializer;
 impl DeserializeResponse for HeadDeserializer {
     ghost use Rattle.std.specs.Prelude.{◌≡◌, ◌==◌, if◌then◌else◌, codes, None, Some};
     ghost use Rattle.smithy_types.specs.declared.fault.Outcome.TheVariants.{Output};
-    ghost use Rattle.cli_client.specs.Service.Service.{read_outcome};
+    ghost use Rattle.client_scripted.specs.Service.Service.{read_outcome};
 
     ghost streams = { λ _ response _ outcome. outcome ≡ (if response.status == 202
         then Some (Output (record { kind = 1; bytes = codes "accepted" })) else None) };

@@ -6,10 +6,10 @@ use crate::standing::{NOTHING, PAID, PAID_AT_RANDOM, Standing, settings};
 use body_guard::stalled_stream::{
     StalledStreamProtectionInterceptor, StalledStreamProtectionInterceptorKind,
 };
-use cli_client::service::ServiceError;
 use client_builder::OwnInterceptor;
 use client_retries::TakeOffer;
 use client_retries::hooking::hook;
+use client_scripted::service::ServiceError;
 use outside::Outside;
 use rate_limit::ClientRateLimiter;
 use retry_policy::{

@@ -4,10 +4,10 @@ use crate::clockwork::Clockwork;
 use crate::hooks::by_status;
 use crate::messages::{answer_text, outcome, request, response};
 use crate::standing::{Standing, settings};
-use cli_client::service::ServiceError;
 use client_retries::RetryStrategy;
 use client_retries::decide::{context_of, decide};
 use client_retries::initial::initial;
+use client_scripted::service::ServiceError;
 use outside::Outside;
 use rate_limit::ClientRateLimiter;
 use retry_policy::{

@@ -1,7 +1,7 @@
 -- An invocation of a client is determined.
 use Rattle.std.proofs.Common.{◌≡◌, ◌∙◌, sym, ap, subst, ℕ, List, []}
-use Rattle.cli_client.specs.Runs.Invoking.{Invoked, begun, head_by}
-use Rattle.cli_client.specs.Runs.Means.{ServedBy, client_means}
+use Rattle.cli_client_runs.specs.Invoking.{Invoked, begun, head_by}
+use Rattle.cli_client_runs.specs.Means.{ServedBy, client_means}
 use Rattle.json_scripts.specs.declared.client.terms.InvocationRecord.{InvocationRecord}
 use Rattle.rate_limit.specs.Pace.{Pace, pace_from}
 use Rattle.rate_limit.specs.Steps.{after_acquire, after_update, reply_to}
@@ -14,7 +14,7 @@ use Rattle.run_grammar.specs.declared.answer.Entry.{Entry}
 use Rattle.json_print.specs.Endings.{EndsBy}
 use Rattle.json_print.specs.declared.ending.Ending.{Ending}
 use Rattle.outside_scripted.specs.declared.scripted_outside.ScriptedOutside.{ScriptedOutside}
-use Rattle.cli_client.specs.declared.scripted.client.ScriptedClient.{ScriptedClient}
+use Rattle.client_scripted.specs.declared.client.ScriptedClient.{ScriptedClient}
 use Rattle.smithy_context.specs.declared.context.InterceptorContext.{InterceptorContext}
 use Rattle.smithy_types.specs.declared.notes.RetryAction.{RetryAction}
 use Rattle.laws_determined.proofs.client.Served.{runs_once}

@@ -3,10 +3,10 @@ use Rattle.std.proofs.Common.{◌≡◌, ◌∙◌, refl, sym, ap, subst, ℕ, �
 use Rattle.std.specs.Map.{lookup}
 use Rattle.client_auth.specs.Identities.{cached_by}
 use Rattle.cli_client.specs.Opening.{IsOpened}
-use Rattle.cli_client.specs.declared.runs.set.ClientSet.{ClientSet}
+use Rattle.cli_client_runs.specs.declared.set.ClientSet.{ClientSet}
 use Rattle.json_scripts.specs.declared.client.terms.BucketTerms.{BucketTerms}
 use Rattle.json_scripts.specs.declared.client.terms.ClientObject.{ClientObject}
-use Rattle.cli_client.specs.declared.service.error.ServiceError.{ServiceError}
+use Rattle.client_scripted.specs.declared.service.error.ServiceError.{ServiceError}
 use Rattle.identity_cell.specs.declared.identity_cache.SharedIdentityCache.{SharedIdentityCache}
 use Rattle.identity_cell.specs.declared.identity_cache.SharedIdentityCache.TheVariants.{NoCache, Lazy}
 use Rattle.client_builder.specs.declared.own_interceptor.OwnInterceptor.{OwnInterceptor}
@@ -16,9 +16,9 @@ use Rattle.client_retries.specs.declared.strategy.RetryStrategy.TheVariants.{Nev
 use Rattle.retry_policy.specs.declared.classify.Classifier.{Classifier}
 use Rattle.retry_quota.specs.Registers.{Registers}
 use Rattle.retry_quota.specs.declared.permit.Permit.{Permit}
-use Rattle.cli_client.specs.Scripted.Clients.{Builds, BuildsOne, Described, IsBuiltBy, ServiceBuilder, ServiceWorld, builder_of}
-use Rattle.cli_client.specs.Scripted.Parts.{PartitionOf}
-use Rattle.cli_client.specs.declared.scripted.client.ScriptedClient.{ScriptedClient}
+use Rattle.client_scripted.specs.Clients.{Builds, BuildsOne, Described, IsBuiltBy, ServiceBuilder, ServiceWorld, builder_of}
+use Rattle.client_scripted.specs.Parts.{PartitionOf}
+use Rattle.client_scripted.specs.declared.client.ScriptedClient.{ScriptedClient}
 use Rattle.smithy_base.specs.declared.intercept.Slot.{Slot}
 use Rattle.smithy_types.specs.Chain.{Chained}
 use Rattle.smithy_types.specs.Partition.{same_partition as by_partition}

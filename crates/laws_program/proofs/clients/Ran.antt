@@ -3,14 +3,14 @@ use Rattle.std.proofs.Common.{◌≡◌, ◌∙◌, refl, sym, subst, ℕ, zero,
 use Rattle.std.proofs.lemmas.List.Sums.{sum_by-cons}
 use Rattle.std.specs.Prelude.{slice_get, slice_set}
 use Rattle.client_auth.specs.Identities.{loads_of}
-use Rattle.cli_client.specs.Runs.Means.{ServedBy}
-use Rattle.cli_client.specs.Runs.Running.{InvokedIn, Ran, Runs, loads_in}
-use Rattle.cli_client.specs.declared.runs.set.ClientSet.{ClientSet}
+use Rattle.cli_client_runs.specs.Means.{ServedBy}
+use Rattle.cli_client_runs.specs.Running.{InvokedIn, Ran, Runs, loads_in}
+use Rattle.cli_client_runs.specs.declared.set.ClientSet.{ClientSet}
 use Rattle.json_scripts.specs.declared.client.terms.InvocationRecord.{InvocationRecord}
 use Rattle.client_retries.specs.Meanings.{InterceptorMeans}
 use Rattle.run_grammar.specs.declared.answer.Entry.{Entry}
 use Rattle.json_print.specs.declared.ending.Ending.{Ending}
-use Rattle.cli_client.specs.declared.scripted.client.ScriptedClient.{ScriptedClient}
+use Rattle.client_scripted.specs.declared.client.ScriptedClient.{ScriptedClient}
 use Rattle.smithy_context.specs.declared.context.InterceptorContext.{InterceptorContext}
 use Rattle.smithy_types.specs.Chain.{Chained}
 use Rattle.smithy_types.specs.declared.notes.RetryAction.{RetryAction}

@@ -4,10 +4,10 @@ use Rattle.std.specs.Prelude.{option_map, slice_get}
 use Rattle.cli_client.specs.Report.{Counts, made_data}
 use Rattle.cli_client.specs.Tally.{Tallies, calls_in, errors_in, outputs_in}
 use Rattle.cli_client.specs.declared.tally.Tally.{Tally}
-use Rattle.cli_client.specs.Runs.Means.{ServedBy}
-use Rattle.cli_client.specs.Runs.Print.{buckets_text, loads_data}
-use Rattle.cli_client.specs.Runs.Running.{Plays, Ran, RunsAll, invocations_text, last_outcome}
-use Rattle.cli_client.specs.declared.runs.set.ClientSet.{ClientSet}
+use Rattle.cli_client_runs.specs.Means.{ServedBy}
+use Rattle.cli_client_runs.specs.Print.{buckets_text, loads_data}
+use Rattle.cli_client_runs.specs.Running.{Plays, Ran, RunsAll, invocations_text, last_outcome}
+use Rattle.cli_client_runs.specs.declared.set.ClientSet.{ClientSet}
 use Rattle.json_scripts.specs.declared.client.terms.InvocationRecord.{InvocationRecord}
 use Rattle.client_retries.specs.Meanings.{InterceptorMeans}
 use Rattle.retry_quota.specs.Book.{sums_of}

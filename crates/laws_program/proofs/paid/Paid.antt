@@ -5,14 +5,14 @@ use Rattle.std.specs.List.{AllByRecursion}
 use Rattle.cli_client.specs.Client.{IsClientRun}
 use Rattle.cli_client.specs.Means.{NoClassifier, NoInterceptor, none, own_chain, own_says, OwnServed}
 use Rattle.laws_client.specs.Retries.Attempting.{SettingsBoundAttempts}
-use Rattle.cli_client.specs.Runs.Invoking.{head_by}
-use Rattle.cli_client.specs.Runs.Means.{client_means}
-use Rattle.cli_client.specs.Runs.Print.{buckets_text, loads_data}
-use Rattle.cli_client.specs.Runs.Running.{Ran, Runs, loads_in}
-use Rattle.cli_client.specs.declared.runs.set.ClientSet.{ClientSet}
+use Rattle.cli_client_runs.specs.Invoking.{head_by}
+use Rattle.cli_client_runs.specs.Means.{client_means}
+use Rattle.cli_client_runs.specs.Print.{buckets_text, loads_data}
+use Rattle.cli_client_runs.specs.Running.{Ran, Runs, loads_in}
+use Rattle.cli_client_runs.specs.declared.set.ClientSet.{ClientSet}
 use Rattle.json_scripts.specs.declared.client.script.ClientScript.{ClientScript}
 use Rattle.json_scripts.specs.declared.client.terms.InvocationRecord.{InvocationRecord}
-use Rattle.cli_client.specs.declared.service.error.ServiceError.{ServiceError}
+use Rattle.client_scripted.specs.declared.service.error.ServiceError.{ServiceError}
 use Rattle.client_components.proofs.PaidLemmas.{all_paid}
 use Rattle.json_print.proofs.determined.Endings.{run_of}
 use Rattle.client_builder.specs.declared.own_interceptor.OwnInterceptor.{OwnInterceptor}

@@ -3,10 +3,10 @@ use Rattle.std.proofs.Common.{◌≡◌, ◌∙◌, sym, ap, subst, ℕ, inl, in
 use Rattle.std.specs.Prelude.{codes, is_some, unwrap_or}
 use Rattle.auth_endpoint.specs.declared.scheme.Signed.{Signed}
 use Rattle.auth_endpoint.specs.declared.scheme.Signed.TheVariants as signed
-use Rattle.cli_client.specs.Runs.Means.{resolver_polls, scheme_signs}
-use Rattle.cli_client.specs.Service.Service.{Signs}
-use Rattle.cli_client.specs.declared.service.scheme.ServiceScheme.{ServiceScheme}
-use Rattle.cli_client.specs.declared.service.scheme.ServiceScheme.TheVariants as services
+use Rattle.cli_client_runs.specs.Means.{resolver_polls, scheme_signs}
+use Rattle.client_scripted.specs.Service.Service.{Signs}
+use Rattle.client_scripted.specs.declared.service.scheme.ServiceScheme.{ServiceScheme}
+use Rattle.client_scripted.specs.declared.service.scheme.ServiceScheme.TheVariants as services
 use Rattle.http_schemes.specs.Encoding.{encoded}
 use Rattle.http_schemes.specs.Query.{IsTargetSigned, RefusesTarget, query_with, scheme_text, signed_text}
 use Rattle.http_schemes.specs.Signing.{SignsByHeader, SignsByKey, SignsByQuery, prefixed}

@@ -3,7 +3,7 @@ use Rattle.std.specs.Prelude.{◌≡◌, ℕ, ◌<◌, ◌^◌, List, ◌++◌, 
 use Rattle.std.specs.List.{AllByRecursion}
 use Rattle.cli_client.specs.Client.{IsClientRun}
 use Rattle.laws_client.specs.Retries.Attempting.{BeginsAtMostAllowed}
-use Rattle.cli_client.specs.Runs.Running.{Ran, invocations_text}
+use Rattle.cli_client_runs.specs.Running.{Ran, invocations_text}
 use Rattle.json_scripts.specs.declared.client.script.ClientScript.{ClientScript}
 use Rattle.client_components.specs.Paying.{Pays}
 use Rattle.run_grammar.specs.Laws.{IsWhole}

@@ -1,5 +1,5 @@
 -- What each part of a script's client answers follows from what it is and what it is handed.
-use Rattle.cli_client.specs.Runs.Means.{client_means}
+use Rattle.cli_client_runs.specs.Means.{client_means}
 use Rattle.client_retries.specs.Meanings.{InterceptorMeans}
 use Rattle.smithy_context.specs.declared.context.InterceptorContext.{InterceptorContext}
 use Rattle.smithy_types.specs.declared.notes.RetryAction.{RetryAction}

@@ -1,4 +1,4 @@
-use Rattle.cli_client.specs.Runs.Means.{ServedBy}
+use Rattle.cli_client_runs.specs.Means.{ServedBy}
 use Rattle.cli_client.proofs.Tallied.{none_tallied, one_more}
 use Rattle.cli_client.proofs.tally.count_runs.Goals as goal
 

@@ -1,4 +1,4 @@
-use Rattle.cli_client.specs.Runs.Means.{ServedBy}
+use Rattle.cli_client_runs.specs.Means.{ServedBy}
 use Rattle.cli_client.proofs.Tallied.{TalliedSo}
 use Rattle.cli_client.proofs.tally.count_runs.Given as goal
 

@@ -1,6 +1,6 @@
 use Rattle.std.proofs.Common.{◌∙◌, ap, refl, subst}
-use Rattle.cli_client.proofs.runs.Invoked.{ended_whole, served_whole}
-use Rattle.cli_client.specs.Runs.Invoking.{begun, head_by}
+use Rattle.cli_client_runs.proofs.Invoked.{ended_whole, served_whole}
+use Rattle.cli_client_runs.specs.Invoking.{begun, head_by}
 use Rattle.client_components.specs.Serving.{Served}
 use Rattle.retry_quota.specs.Calls.{limiters_by}
 use Rattle.cli_fleet.specs.Means.{ServedOver, world_means}

@@ -3,7 +3,7 @@ use Rattle.retry_quota_cell.specs.Fleet.{AreTheirs}
 use Rattle.retry_quota_cell.specs.Known.{opening_of}
 use Rattle.retry_quota.specs.Book.{sums_of}
 use Rattle.retry_quota.specs.History.{end_of}
-use Rattle.cli_client.specs.Scripted.Buckets.{book_of}
+use Rattle.client_scripted.specs.Buckets.{book_of}
 use Rattle.cli_shell.specs.declared.status.PrintStatus.TheVariants as outcomes
 use denote.Param.Send.{param_send, param_sync, sendable}
 use Rattle.cli_fleet.proofs.Crosses.{caller_send}

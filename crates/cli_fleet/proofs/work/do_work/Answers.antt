@@ -2,7 +2,7 @@ use Rattle.std.proofs.Common.{◌∙◌, ap, refl, subst, sym}
 use Rattle.std.proofs.lemmas.Result.{IfOk-weaker}
 use Rattle.retry_quota_cell.specs.Callers.{own}
 use Rattle.retry_quota_cell.specs.Known.{IsOf}
-use Rattle.cli_client.specs.Scripted.Clients.{builder_of}
+use Rattle.client_scripted.specs.Clients.{builder_of}
 use Rattle.cli_fleet.proofs.Closing.{closed_work, works_so}
 use Rattle.cli_fleet.specs.Working.{Worked}
 use Rattle.cli_fleet.proofs.work.do_work.Goals as goal

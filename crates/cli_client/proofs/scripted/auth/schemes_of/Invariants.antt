@@ -1,7 +1,0 @@
-use Rattle.std.proofs.Common.{◌≡◌, map}
-use Rattle.cli_client.specs.Scripted.Parts.{scheme_named}
-use Rattle.cli_client.proofs.scripted.auth.schemes_of.Given as goal
-
--- the schemes of the ids so far
-abbrev pub invariant-loop-id : goal.invariant-loop-id
-invariant-loop-id l = l.list ≡ map (scheme_named l.http_schemes) l.yielded

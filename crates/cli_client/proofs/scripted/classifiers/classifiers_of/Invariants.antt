@@ -1,7 +1,0 @@
-use Rattle.std.proofs.Common.{◌≡◌, map}
-use Rattle.cli_client.specs.Scripted.Parts.{classifier_of}
-use Rattle.cli_client.proofs.scripted.classifiers.classifiers_of.Given as goal
-
--- the classifiers of the choices so far
-abbrev pub invariant-loop-choice : goal.invariant-loop-choice
-invariant-loop-choice g l = l.list ≡ map classifier_of l.yielded

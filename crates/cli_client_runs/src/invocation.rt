@@ -1,0 +1,77 @@
+//! One invocation of a client's operation.
+ghost use Rattle.std.specs.Prelude.{◌≡◌, [], IfOk};
+ghost use Rattle.cli_client_runs.specs.Means.{ServedBy};
+ghost use Rattle.cli_client_runs.specs.Invoking.{Invoked, head_of};
+
+use client_retries::TakeOffer;
+use client_scripted::service::{ERROR_KIND, OUTPUT_KIND};
+use client_scripted::{ClientQuota, ScriptedClient};
+use json_print::world::run_over;
+use json_print::{Ending, RunHead};
+use json_scripts::client::InvocationRecord;
+use outside_scripted::ScriptedOutside;
+use retry_policy::ClassifyRetry;
+use run_grammar::Entry;
+use smithy_types::{List, OutOfMemory, Payload, StopPoint};
+use std::alloc::Global;
+use std::mem;
+
+/// How many entries a log has room for at first: those of a run of three attempts.
+const LOG_ROOM: usize = 96;
+
+/// Runs the client's operation over this outside and this quota, which come back as the run leaves
+/// them. Answers the run's entries and how it ended.
+pub fn invoke<C: ClassifyRetry, I: TakeOffer>(
+    alloc: Global,
+    client: &mut ScriptedClient<C, I>,
+    outside: &mut ScriptedOutside,
+    quota: &mut ClientQuota,
+    invocation: InvocationRecord,
+) -> Result<(List<Entry>, Ending), OutOfMemory>
+    ensures { IfOk result (λ ran. Invoked
+        (ServedBy C.says (record {
+          names = I.names;
+          hooks = I.hooks;
+          runs = I.runs;
+          with_bucket = I.with_bucket;
+          with_verdict = I.with_verdict;
+        })) client.old outside.old
+        quota.old invocation ran.0 ran.1 client.new outside.new quota.new) }
+{
+    let InvocationRecord {
+        input,
+        fuel,
+        stop,
+        responses,
+        ..
+    } = invocation;
+    let head = head_of(input, fuel, stop);
+    outside.begin_invocation(alloc, responses, client.identities.clone()?);
+    let empty_log = log_with_room(alloc)?;
+    client.world.log = empty_log;
+    client.world.swap_parts(outside, quota);
+    let ending = run_over(alloc, &client.operation, &head, &mut client.world)?;
+    client.world.swap_parts(outside, quota);
+    let log = mem::replace(&mut client.world.log, List::new());
+    Ok((log, ending))
+}
+
+// A log without entries, with room for those of a run of some attempts.
+fn log_with_room(alloc: Global) -> Result<List<Entry>, OutOfMemory>
+    ensures { IfOk result (λ log. log ≡ []) }
+{
+    Ok(List::from_vec(Vec::with_capacity(alloc, LOG_ROOM)?))
+}
+
+/// What a run of the service's operation is begun with.
+pub fn head_of(input: Payload, fuel: u64, stop: StopPoint) -> RunHead
+    ensures { result ≡ head_of input fuel stop }
+{
+    RunHead {
+        input,
+        fuel,
+        stop,
+        output_kind: OUTPUT_KIND as u64,
+        error_kind: ERROR_KIND as u64,
+    }
+}

@@ -1,0 +1,4 @@
+pub mod Service
+pub mod Buckets
+pub mod Parts
+pub mod Clients
