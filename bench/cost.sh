@@ -1,7 +1,7 @@
 #!/bin/sh
 # Counts the instructions of a call of the engine, by callgrind: a run of 10 delays against one of
-# 1000. Each delay is a turn of 23 calls. What the script costs is left out: it is the same with
-# fuel 0, where nothing is asked.
+# 1000. Each delay is a turn of 23 calls. What the script and the program's rows cost is left out: it
+# is the same with fuel 0, where nothing is asked.
 top=$(cd "$(dirname "$0")/.." && pwd)
 program=$top/crates/golden_engine/out/golden_engine
 
