@@ -1,5 +1,5 @@
 //! An outside that follows a script: its clock moves only where something is waited for, and each
-//! response and identity comes when the script says.
+//! answer comes when the script says. `service` makes such an outside of statuses and bodies.
 #![tactic(auto)]
 
 pub mod call;

@@ -1,4 +1,4 @@
-//! The retry quota: token buckets that retries are paid from, and the registry that keeps them.
+//! The retry quota: buckets that pay for retries, their registry, a limiter that refuses nothing.
 #![tactic(auto)]
 
 pub mod builder;
