@@ -1,4 +1,4 @@
-//! The commands that run clients over a script: one that is read, or one that is made.
+//! The commands `client` and `make`, which run clients over a script that is read, or that is made.
 #![tactic(auto)]
 
 pub mod client;

@@ -1,4 +1,5 @@
-//! The command `replay`: its script, its print, and what holds of every replay.
+//! The command `replay`: its script with the limits of that, its print, and what holds of every
+//! replay.
 #![tactic(auto)]
 
 pub mod command;

@@ -1,4 +1,5 @@
-//! The command `wait`: timers that follow a script, its script, and its print.
+//! The command `wait`: timers of a waiter that follow a script, the script, and the print of the
+//! waiter.
 #![tactic(auto)]
 
 pub mod command;

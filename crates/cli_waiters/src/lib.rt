@@ -1,5 +1,5 @@
-//! The command `waiters`: many waiters over a script, whose polls one bucket pays for, and their
-//! print.
+//! The command `waiters`: many waiters over a script, whose polls one bucket pays for. Its script,
+//! the world that follows it, and the print.
 #![tactic(auto)]
 
 pub mod command;

@@ -1,4 +1,5 @@
-//! A bakery's service, as a code generator would write it: its model and its protocol.
+//! A bakery's service, as a code generator would write it: its model, the payloads that its values
+//! are, and its protocol, with an interceptor and a classifier that go with it.
 #![tactic(auto)]
 
 mod model;

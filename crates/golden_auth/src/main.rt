@@ -1,4 +1,5 @@
-//! Prints choices, endpoints and schemes, to be compared with a print made without them.
+//! Prints choices of auth schemes, endpoints and signed requests, to be compared with a print made
+//! without them.
 #![tactic(auto)]
 
 mod endpoint;

@@ -1,4 +1,6 @@
 //! Prints runs of the engine, to be compared with a print that was made without it.
+//!
+//! The words are the number of delays and the fuel of the runs that are measured (`cost`).
 #![tactic(auto)]
 
 mod cost;

@@ -1,4 +1,5 @@
-//! Prints what the program does, to be compared with a print made without it.
+//! Prints what the program does, to be compared with a print made without it: how fleets of callers
+//! end, and each command over streams that fail.
 #![tactic(auto)]
 
 mod fleet;

@@ -1,4 +1,6 @@
-//! The print of a run: the line that it is begun with, a line for each entry, and the last line.
+//! The print of a run: the line that it is begun with, a line for each entry, and the last line. A
+//! run over any world ends with what that line says (`world`), and its entries determine it
+//! (`determined`).
 #![tactic(auto)]
 
 pub mod determined;

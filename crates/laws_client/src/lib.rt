@@ -1,4 +1,5 @@
-//! What holds of every client. Each law is the contract of a function without a body.
+//! What holds of every run of a client: its attempts, what each question is handed, and what is
+//! told of buckets and choices. Each law is the contract of a function that does nothing.
 #![tactic(auto)]
 
 pub mod attempts;

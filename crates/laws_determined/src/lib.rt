@@ -1,4 +1,5 @@
-//! What determines the answers of a client: two that are alike answer alike.
+//! What determines the answers of a client: two that are alike answer alike. Each law is the
+//! contract of a function that does nothing.
 #![tactic(auto)]
 
 pub mod auth;

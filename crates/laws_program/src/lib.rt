@@ -1,4 +1,5 @@
-//! What holds of the program's scripts and of what it prints of them.
+//! What holds of the program's scripts and of what it prints of them. Each law is the contract of a
+//! function that does nothing.
 #![tactic(auto)]
 
 pub mod client_scripts;

@@ -1,5 +1,6 @@
-//! Tells whether a text is the print of a whole run and of its answer. The text is read line by
-//! line, its calls are followed along the grammar, and what they come to is printed again.
+//! Tells whether a text is the print of a whole run and of its answer: the command `check`. The
+//! text is read line by line, its calls are followed along the grammar (`reading`), and what they
+//! come to is printed again.
 #![tactic(auto)]
 
 pub mod command;
