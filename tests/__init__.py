@@ -1,0 +1,1 @@
+"""The checks that `./test` runs, a module for each subject."""
