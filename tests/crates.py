@@ -68,6 +68,17 @@ def names_as_code(text: str) -> Set[str]:
     return {word for found in re.findall(words, text, re.ASCII) for word in found if word}
 
 
+def names_in(path: str) -> Set[str]:
+    """What a file names as code; outside of sources, whose functions may be called so, each word
+    with an underscore too. Texts in quotes are data."""
+    text = repository.read(path)
+    if path == PAGE:
+        text = without_former_names(text)
+    text = re.sub(r'"[^"\n]*"', "", text)
+    words = [] if path in repository.sources() else re.findall(r"\w+", text, re.ASCII)
+    return {word for word in words if "_" in word} | names_as_code(text)
+
+
 class CrateTest(unittest.TestCase):
     maxDiff = None
 
@@ -110,12 +121,4 @@ class FormerNameTest(unittest.TestCase):
         gone = set(former_names()) - names_that_exist()
         for path in repository.files():
             with self.subTest(path):
-                self.assertEqual(gone & self.names_in(path), set())
-
-    def names_in(self, path: str) -> Set[str]:
-        """What a file names: its words with an underscore, and its plain words as code."""
-        text = repository.read(path)
-        if path == PAGE:
-            text = without_former_names(text)
-        words = re.findall(r"\w+", text, re.ASCII)
-        return {word for word in words if "_" in word} | names_as_code(text)
+                self.assertEqual(gone & names_in(path), set())

@@ -10,6 +10,7 @@ import unittest
 from typing import Dict, Iterator, Tuple
 
 from .support import repository
+from .support.program import TOP
 
 FOLDERS = re.compile("(src|specs|proofs)/")
 
@@ -39,8 +40,9 @@ class EditTest(unittest.TestCase):
         texts: Dict[str, str] = {}
         for path, old, new in changes_in(edit):
             self.assertRegex(path, FOLDERS)
-            self.assertIn(f"crates/{crate}/{path}", repository.files())
-            text = texts.get(path) or repository.read(f"crates/{crate}/{path}")
+            file = f"crates/{crate}/{path}"
+            self.assertTrue((TOP / file).is_file(), f"there is no {file}")
+            text = texts.get(path) or repository.read(file)
             self.assertNotEqual(old, new)
             self.assertEqual(text.count(old), 1, f"in {path}: {old}")
             texts[path] = text.replace(old, new)

@@ -1,5 +1,6 @@
 """Checks that what the pages name is there: each path and each name of code in backquotes, in a
-link, and in a piece of code, and each crate of a heading; and that no merge has left its marks.
+link, and in a piece of code, and each crate of a heading; and that no merge has left its marks. The
+picture of families in docs/ARCHITECTURE.md is left to the module `crates`.
 
 A path is looked for at the top and in crates/, else in the crates that the line or the heading
 names, or beside the line's last path. A name is there where some source, definition or proof has
@@ -12,10 +13,11 @@ import re
 import unittest
 from typing import Dict, FrozenSet, List, Optional, Set
 
+from . import crates
 from .support import repository
 from .support.program import TOP
 
-# Words of Rust's crate, of std, of prints and of style, which no crate has.
+# Words of Rust's crate, of std, of prints, of Python and of style, which no crate has.
 ELSEWHERE = {
     "acquire_adaptive_send_token",
     "call_once",
@@ -23,6 +25,7 @@ ELSEWHERE = {
     "finalize",
     "non_throttling_initial",
     "panic",
+    "unittest",
     "opened_context",
     "must-fail/a_sentence_with_underscores.edit",
     "ConfigBag",
@@ -76,12 +79,12 @@ def file_names() -> Dict[str, Set[str]]:
 
 @functools.lru_cache(maxsize=None)
 def words() -> FrozenSet[str]:
-    """What a name may be: words of the crates' files, names of crates, examples and edits."""
+    """What a name may be: words of the crates' files, names of crates, edits, examples, checks."""
     found = set(ELSEWHERE)
     for path in repository.sources():
         found |= repository.words_of(path)
     for path in map(pathlib.PurePath, repository.files()):
-        if path.parts[0] == "examples":
+        if path.parts[0] in ("examples", "tests"):
             found.add(path.name.partition(".")[0])
     found.update(pathlib.PurePath(path).stem for path in repository.edits())
     return frozenset(found | repository.crates())
@@ -125,6 +128,8 @@ class Page:
         self.crate, self.folder, self.number = "", "", 0
 
     def read(self, text: str):
+        if self.path == crates.PAGE:
+            text = text.replace(crates.picture(), "\n" * crates.picture().count("\n"), 1)
         in_code = False
         for self.number, line in enumerate(text.splitlines(), 1):
             self.crate, self.folder = "", ""

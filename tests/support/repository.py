@@ -8,7 +8,6 @@ from typing import Dict, FrozenSet, List, NamedTuple, Tuple
 from .program import TOP
 
 LEFT_OUT = {".git", "out", "target", "__pycache__"}
-SOURCE_FOLDERS = ("src", "specs", "proofs")
 
 
 class Crate(NamedTuple):
@@ -31,10 +30,10 @@ def files() -> List[str]:
 
 
 @functools.lru_cache(maxsize=None)
-def sources() -> List[str]:
+def sources() -> FrozenSet[str]:
     """The files of the crates' sources, definitions and proofs."""
-    folders = "|".join(SOURCE_FOLDERS)
-    return [path for path in files() if re.match(rf"crates/\w+/({folders})/", path)]
+    folders = re.compile(r"crates/\w+/(src|specs|proofs)/")
+    return frozenset(path for path in files() if folders.match(path))
 
 
 @functools.lru_cache(maxsize=None)
