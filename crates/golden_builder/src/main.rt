@@ -1,5 +1,5 @@
 //! Builds operations, and prints what comes of it: what a builder is refused for that is given one
-//! part after another, and what clients ask and answer that other setters of the builder made.
+//! part after another, and what a client asks and answers that other setters of the builder made.
 #![tactic(auto)]
 
 use anyhow::Result;
@@ -42,9 +42,6 @@ const FUEL: u64 = 200;
 
 /// How long a stream may stall: 20 s, in nanoseconds.
 const GRACE: u64 = 20_000_000_000;
-
-/// The order is accepted.
-const ACCEPTED: &[Row] = &[(202, "unread")];
 
 /// The service fails for a while, and then it accepts the order.
 const ACCEPTED_LATER: &[Row] = &[(503, "transient"), (202, "unread")];
@@ -117,9 +114,7 @@ impl DeserializeResponse for HeadDeserializer {
 
 fn main(rt: HostRuntime) -> Result<()> {
     print_refusals(&rt)?;
-    print_signed(&rt)?;
-    print_once(&rt)?;
-    print_again(&rt)
+    print_signed(&rt)
 }
 
 // Why a builder is refused that lacks parts.
@@ -129,28 +124,15 @@ fn print_refusals(rt: &HostRuntime) -> Result<()> {
     build_nothing(rt, outside, buckets)
 }
 
-// A client that signs, and whose parts of the outside come by a plugin.
+// A client that signs, whose parts of the outside come by a plugin, and which gives a connection up
+// on which a transient failure came.
 fn print_signed(rt: &HostRuntime) -> Result<()> {
-    println!(rt; "a token and a plugin")?;
-    let outside = without_facts(service(rt.alloc(), ACCEPTED))?;
+    println!(rt;
+        "a token, a plugin, and two attempts, the first of which gives its connection up"
+    )?;
+    let outside = without_facts(service(rt.alloc(), ACCEPTED_LATER))?;
     let buckets: Registry<ClientRateLimiter> = Registry::new(rt.alloc())?;
     brew_signed(rt, outside, buckets)
-}
-
-// A client that makes one attempt, and protects its streams.
-fn print_once(rt: &HostRuntime) -> Result<()> {
-    println!(rt; "one attempt, with protected streams")?;
-    let outside = without_facts(service(rt.alloc(), ACCEPTED_LATER))?;
-    let buckets: Registry<ClientRateLimiter> = Registry::new(rt.alloc())?;
-    brew_once(rt, outside, buckets)
-}
-
-// A client that makes two, over two connections.
-fn print_again(rt: &HostRuntime) -> Result<()> {
-    println!(rt; "two attempts, the first of which gives its connection up")?;
-    let outside = without_facts(service(rt.alloc(), ACCEPTED_LATER))?;
-    let buckets: Registry<ClientRateLimiter> = Registry::new(rt.alloc())?;
-    brew_again(rt, outside, buckets)
 }
 
 // The same value, without the facts that are known of it: no goal behind the setters of a builder
@@ -275,7 +257,9 @@ fn give_timeouts<X: Outside + Drop, Q: Quota + Drop>(
     back: Back<X, Q>,
 ) -> Result<()> {
     let (builder, outside, quota) = told(rt, back)?;
-    let builder = builder.timeout_config(TimeoutConfig::disabled());
+    let builder = builder
+        .timeout_config(TimeoutConfig::disabled())
+        .stalled_stream_protection(protection());
     match builder.build(rt.alloc(), outside, quota) {
         Ok(built) => tell_built(rt, built),
         Err(back) => Err(refusal_of(back).into()),
@@ -328,7 +312,7 @@ fn of_outside(used: bool) -> ComponentsDraft {
     }
 }
 
-// Brews with a bearer token. The outside's parts and a prefix come by a plugin.
+// Brews with a bearer token, and with retries. The outside's parts and a prefix come by a plugin.
 fn brew_signed<X: Outside + Drop, Q: Quota + Drop>(
     rt: &HostRuntime,
     outside: X,
@@ -344,8 +328,9 @@ fn brew_signed<X: Outside + Drop, Q: Quota + Drop>(
         .operation_name(Text::from_static(OPERATION))
         .behavior_version(1)
         .endpoint_url(Text::from_static(URL))
-        .standard_retry(RetryConfig::standard())
+        .standard_retry(retry())
         .timeout_config(TimeoutConfig::disabled())
+        .with_connection_poisoning()
         .own_serializer(ServiceSerializer)
         .own_deserializer_impl(HeadDeserializer)
         .auth_scheme_options(options)
@@ -353,6 +338,8 @@ fn brew_signed<X: Outside + Drop, Q: Quota + Drop>(
     let builder = added(builder.own_auth_scheme(alloc, BearerAuthScheme::new()))?;
     let builder = added(builder.identity_resolver(alloc, bearer_id(), source))?;
     let builder = added(builder.runtime_plugin(alloc, plugin))?;
+    let modelled = Classifier::ModeledAsRetryable(ModeledAsRetryableClassifier::new());
+    let builder = added(builder.retry_classifier(alloc, modelled))?;
     match builder.build(alloc, outside, quota) {
         Ok((operation, client)) => brew(rt, operation, client),
         Err(back) => Err(refusal_of(back).into()),
@@ -379,71 +366,12 @@ fn token_source(alloc: Global) -> Result<IdentitySource<HttpIdentityResolver>, O
     Ok(IdentitySource::Resolver(HttpIdentityResolver::new(identity)))
 }
 
-// Brews with a strategy that never retries, though the service's error says that it may be tried
-// again.
-fn brew_once<X: Outside + Drop, Q: Quota + Drop>(
-    rt: &HostRuntime,
-    outside: X,
-    quota: Q,
-) -> Result<()> {
-    let alloc = rt.alloc();
-    let builder: OwnBuilder = without_facts(OperationBuilder::new());
-    let builder = builder
-        .service_name(Text::from_static(SERVICE))
-        .operation_name(Text::from_static(OPERATION))
-        .http_client()
-        .sleep_impl()
-        .time_source()
-        .endpoint_url(Text::from_static(URL))
-        .no_retry()
-        .timeout_config(TimeoutConfig::disabled())
-        .stalled_stream_protection(protection())
-        .own_serializer(ServiceSerializer)
-        .own_deserializer_impl(HeadDeserializer)
-        .no_auth();
-    let modelled = Classifier::ModeledAsRetryable(ModeledAsRetryableClassifier::new());
-    let builder = added(builder.retry_classifier(alloc, modelled))?;
-    match builder.build(alloc, outside, quota) {
-        Ok((operation, client)) => brew(rt, operation, client),
-        Err(back) => Err(refusal_of(back).into()),
-    }
-}
-
 // Both streams are watched.
 fn protection() -> StalledStreamProtectionConfig {
     StalledStreamProtectionConfig {
         upload: true,
         download: true,
         grace_period: GRACE,
-    }
-}
-
-// Brews with retries, and gives the connection up on which a transient failure came.
-fn brew_again<X: Outside + Drop, Q: Quota + Drop>(
-    rt: &HostRuntime,
-    outside: X,
-    quota: Q,
-) -> Result<()> {
-    let alloc = rt.alloc();
-    let builder: OwnBuilder = without_facts(OperationBuilder::new());
-    let builder = builder
-        .service_name(Text::from_static(SERVICE))
-        .operation_name(Text::from_static(OPERATION))
-        .http_client()
-        .sleep_impl()
-        .time_source()
-        .endpoint_url(Text::from_static(URL))
-        .standard_retry(retry())
-        .timeout_config(TimeoutConfig::disabled())
-        .with_connection_poisoning()
-        .own_serializer(ServiceSerializer)
-        .own_deserializer_impl(HeadDeserializer)
-        .no_auth();
-    let modelled = Classifier::ModeledAsRetryable(ModeledAsRetryableClassifier::new());
-    let builder = added(builder.retry_classifier(alloc, modelled))?;
-    match builder.build(alloc, outside, quota) {
-        Ok((operation, client)) => brew(rt, operation, client),
-        Err(back) => Err(refusal_of(back).into()),
     }
 }
 
