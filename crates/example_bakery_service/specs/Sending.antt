@@ -25,7 +25,7 @@ answer_of (Failed text) = record no_answer { failure = Some text }
 -- the request has the client's name in the header `x-client`; all else stays
 abbrev pub Names : Bool → Option HttpRequest → HookAnswer → Type 0
 Names true (Some request) answer =
-    (named : Signed) × SignsByHeader (codes "x-client") (codes "service_client") request named × (answer ≡ answer_of named)
+    (named : Signed) × SignsByHeader (codes "x-client") (codes "bakery-shop") request named × (answer ≡ answer_of named)
 Names _ _ answer = answer ≡ no_answer
 
 -- a response of status 425 is worth another attempt

@@ -63,7 +63,7 @@ fn is_naming(hook: Hook) -> bool
 fn named(alloc: Global, request: &HttpRequest) -> Result<HookAnswer, OutOfMemory>
     ensures { IfOk result (λ answer. Names true (Some request.now) answer) }
 {
-    let named = sign_by_header(alloc, request.clone()?, b"x-client", b"service_client")?;
+    let named = sign_by_header(alloc, request.clone()?, b"x-client", b"bakery-shop")?;
     let answer = answer_of(alloc, named)?;
     Ok(answer)
 }
