@@ -69,13 +69,15 @@ def names_as_code(text: str) -> Set[str]:
 
 
 def names_in(path: str) -> Set[str]:
-    """What a file names as code; outside of sources, whose functions may be called so, each word
-    with an underscore too. Texts in quotes are data."""
+    """What a file names as code, and its words with an underscore: in a source those of comments,
+    since its functions may be called so. Texts in quotes are data."""
     text = repository.read(path)
     if path == PAGE:
         text = without_former_names(text)
     text = re.sub(r'"[^"\n]*"', "", text)
-    words = [] if path in repository.sources() else re.findall(r"\w+", text, re.ASCII)
+    is_source = path in repository.sources()
+    prose = "\n".join(re.findall("(?://|--).*", text)) if is_source else text
+    words = re.findall(r"\w+", prose, re.ASCII)
     return {word for word in words if "_" in word} | names_as_code(text)
 
 

@@ -9,15 +9,14 @@ the numbers of the entries are out of order, or the first or the last line is mi
 import os
 import pathlib
 import re
-import subprocess
 from concurrent.futures import ThreadPoolExecutor
 from typing import Iterator, List, NamedTuple, Set, Tuple
 
-from .support import program
-from .support.program import EXAMPLES, ProgramTest
+from .support.direct import run
+from .support.program import EXAMPLES, ProgramTest, Ran
 
 PLACES = 200
-YES, NO = (0, b'["yes"]\n'), (13, b'["no"]\n')
+YES, NO = (0, '["yes"]\n'), (13, '["no"]\n')
 
 # What a line may hold between the marks, whatever else stands on a print: the first line's payload
 # and the kind of error, since no print here ends with an error of the service; texts and numbers of
@@ -130,11 +129,9 @@ def with_two_lines_swapped(text: str) -> Iterator[Damage]:
         yield Damage(f"lines {at + 1} and {at + 2} swapped", "".join(swapped), False)
 
 
-def check(damage: Damage) -> Tuple[int, bytes]:
-    """What `check` says. The program is called directly, since it is called thousands of times."""
-    asked = [program.path(), "check"]
-    ended = subprocess.run(asked, input=damage.text.encode(), capture_output=True, check=False)
-    return ended.returncode, ended.stdout
+def check(damage: Damage) -> Ran:
+    """What `check` says of a damaged print."""
+    return run("check", text=damage.text)
 
 
 class DamagedTest(ProgramTest):

@@ -52,7 +52,7 @@ def crates() -> FrozenSet[str]:
 
 def read(path: str) -> str:
     """The text of a file, with its path from the top."""
-    return (TOP / path).read_text(encoding="utf-8")
+    return (TOP / path).read_text(encoding="utf-8", errors="replace")
 
 
 @functools.lru_cache(maxsize=None)
