@@ -1,4 +1,4 @@
-"""Compares crates.txt with the folders of crates/ and with docs/ARCHITECTURE.md, and looks for
+"""Compares crates.txt with the folders of crates/ and with docs/inside/ARCHITECTURE.md, and looks for
 names that crates had before.
 
 In crates.txt each crate stands under the heading of its family, and below the crates that it uses.
@@ -14,7 +14,7 @@ from typing import Dict, FrozenSet, List, Set
 
 from .support import repository
 
-PAGE = "docs/ARCHITECTURE.md"
+PAGE = "docs/inside/ARCHITECTURE.md"
 
 
 def family_tables() -> Dict[str, List[str]]:

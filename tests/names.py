@@ -1,6 +1,6 @@
 """Checks that what the pages name is there: each path and each name of code in backquotes, in a
 link, and in a piece of code, and each crate of a heading; and that no merge has left its marks. The
-picture of families in docs/ARCHITECTURE.md is left to the module `crates`.
+picture of families in docs/inside/ARCHITECTURE.md is left to the module `crates`.
 
 A path is looked for at the top and in crates/, else in the crates that the line or the heading
 names, or beside the line's last path. A name is there where some source, definition or proof has
@@ -33,6 +33,10 @@ ELSEWHERE = {
     "client/retries/",
 }
 
+PAGE = re.compile(
+    r"(README|CONTRIBUTING|CHANGELOG|SECURITY)\.md|docs/(inside/)?[^/]+\.md|bench/README\.md"
+    r"|crates/\w+/CALLING\.md"
+)
 NAME = r"[A-Za-z_][A-Za-z0-9_]*"
 NAMES = re.compile(rf"{NAME}(::{NAME})*")
 # A path has a slash and a small letter, or an ending of our files.
@@ -45,11 +49,7 @@ LINK = re.compile(r"\]\(([A-Za-z0-9_./-]+)\)")
 
 def pages() -> List[str]:
     """The pages for readers, those for callers in their crates too."""
-    return [
-        path
-        for path in repository.files()
-        if re.fullmatch(r"README\.md|docs/[^/]+\.md|bench/README\.md|crates/\w+/CALLING\.md", path)
-    ]
+    return [path for path in repository.files() if PAGE.fullmatch(path)]
 
 
 @functools.lru_cache(maxsize=None)
