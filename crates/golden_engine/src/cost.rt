@@ -5,14 +5,14 @@
 
 ghost use Rattle.std.specs.Prelude.{◌≡◌, [], IfOk};
 
-use crate::scripts::script::{
-    ANSWERED, CONFIGURED, DECIDED, DELAYED, GRANTED, Line, OPENED, UNAVAILABLE,
-};
-use crate::scripts::spelled::payload;
-use crate::scripts::world;
+mod script;
+mod spelled;
+
 use anyhow::{Context, Result};
 use orchestrate::{ScriptWorld, invoke};
+use script::{ANSWERED, CONFIGURED, DECIDED, DELAYED, GRANTED, Line, OPENED, UNAVAILABLE, world};
 use smithy_types::OutOfMemory;
+use spelled::payload;
 use std::alloc::Global;
 use std::env;
 

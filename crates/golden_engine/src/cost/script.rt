@@ -1,7 +1,7 @@
 //! Scripts, and the parts that they are put together from.
 ghost use Rattle.std.specs.Prelude.{◌≡◌, [], IfOk};
 
-use crate::scripts::spelled::Spelled;
+use crate::cost::spelled::Spelled;
 use orchestrate::{ScriptAnswer, ScriptWorld};
 use run_grammar::Kind::{
     Apply, Body, Choose, Configure, Decide, Deserialize, Endpoint, Initial, Serialize, Sign, Start,
@@ -14,12 +14,9 @@ use std::alloc::Global;
 /// A line of a script: an answer, and the kind of question that it is for.
 pub type Line = (Kind, Spelled);
 
-/// The settings are asked for; no timeout is set.
+/// The settings are asked for, and there are none.
 pub const CONFIGURED: &[Line] = &[
-    (
-        Configure(ConfigureStage::Client),
-        Spelled::Timeouts(None, None),
-    ),
+    (Configure(ConfigureStage::Client), Spelled::NoSettings),
     (Configure(ConfigureStage::Operation), Spelled::NoSettings),
     (Configure(ConfigureStage::Final), Spelled::NoSettings),
 ];

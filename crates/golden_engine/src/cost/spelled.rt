@@ -2,10 +2,10 @@
 ghost use Rattle.std.specs.Prelude.{◌≡◌, IfOk};
 
 use run_grammar::{Answer, Chosen};
-use smithy_context::{HookAnswer, Layer, Setting};
+use smithy_context::Layer;
 use smithy_types::{
     Blob, Body, Choice, ConnectorKind, Endpoint, Fault, FaultKind, Headers, HttpRequest,
-    HttpResponse, Identity, List, OutOfMemory, Outcome, Payload, Shared, Text, TimeoutConfig,
+    HttpResponse, Identity, List, OutOfMemory, Outcome, Payload, Shared, Text,
 };
 use std::alloc::Global;
 
@@ -15,28 +15,11 @@ const QUESTION: &str = "what are you?";
 /// An answer, made of numbers and of texts that stand in the program.
 #[derive(Clone, Copy)]
 pub enum Spelled {
-    Pending,
-    Failed(&'static str),
-    /// The connector fails with Io.
-    ConnectorFailed(&'static str),
     /// A layer without settings.
     NoSettings,
-    /// A layer with the timeouts of the operation and of an attempt.
-    Timeouts(Option<u64>, Option<u64>),
-    /// A layer by which the request's body is loaded.
-    LoadsBody,
-    /// The hook fails.
-    HookFailed(&'static str),
-    /// The hook sets the timeout of an attempt.
-    HookTimeout(u64),
     /// A GET of this URI, with a body in memory.
     Request(&'static str),
-    /// The same with a body that can be sent once.
-    OnceRequest(&'static str),
     Go,
-    Delay(u64),
-    Started,
-    Ready,
     /// No auth and no identity.
     Chosen,
     Endpoint(&'static str),
@@ -48,34 +31,18 @@ pub enum Spelled {
     Output(u32, &'static str),
     /// The outcome is a failure of the connector, with Io.
     OutcomeConnector(&'static str),
-    /// The outcome is the service's error: its kind, its bytes and the fault's text.
-    OutcomeService(u32, &'static str, &'static str),
     Decided(Choice),
-    Parked,
+    Started,
+    Ready,
 }
 
 impl Spelled {
     /// The answer that is spelled.
     pub fn answer(self, alloc: Global) -> Result<Answer, OutOfMemory> {
         Ok(match self {
-            Spelled::Pending => Answer::Pending,
-            Spelled::Failed(text) => Answer::Failed(Text::from_static(text)),
-            Spelled::ConnectorFailed(text) => {
-                Answer::ConnectorFailed(ConnectorKind::Io, Text::from_static(text))
-            }
             Spelled::NoSettings => Answer::Layer(Layer::new()),
-            Spelled::Timeouts(operation, attempt) => {
-                Answer::Layer(timeouts(alloc, operation, attempt)?)
-            }
-            Spelled::LoadsBody => Answer::Layer(layer(alloc, Setting::LoadBody(true))?),
-            Spelled::HookFailed(text) => hook_failed(text),
-            Spelled::HookTimeout(nanos) => hook_timeout(alloc, nanos)?,
-            Spelled::Request(uri) => request(alloc, uri, Body::Bytes(question(alloc)?))?,
-            Spelled::OnceRequest(uri) => request(alloc, uri, Body::Once(question(alloc)?))?,
+            Spelled::Request(uri) => request(alloc, uri)?,
             Spelled::Go => Answer::Go,
-            Spelled::Delay(nanos) => Answer::Delay(nanos),
-            Spelled::Started => Answer::Started,
-            Spelled::Ready => Answer::Ready,
             Spelled::Chosen => chosen(alloc)?,
             Spelled::Endpoint(url) => endpoint(alloc, url)?,
             Spelled::Response(status, body) => response(alloc, status, body)?,
@@ -84,18 +51,10 @@ impl Spelled {
             Spelled::Output(kind, bytes) => {
                 outcome(alloc, Outcome::Output(payload(alloc, kind, bytes)?))?
             }
-            Spelled::OutcomeConnector(text) => {
-                outcome_failed(alloc, FaultKind::Connector(ConnectorKind::Io), text)?
-            }
-            Spelled::OutcomeService(kind, bytes, text) => {
-                outcome_failed(
-                    alloc,
-                    FaultKind::Operation(payload(alloc, kind, bytes)?),
-                    text,
-                )?
-            }
+            Spelled::OutcomeConnector(text) => failed(alloc, text)?,
             Spelled::Decided(choice) => Answer::Decided(choice, None),
-            Spelled::Parked => Answer::Parked,
+            Spelled::Started => Answer::Started,
+            Spelled::Ready => Answer::Ready,
         })
     }
 }
@@ -117,52 +76,12 @@ fn blob(alloc: Global, text: &str) -> Result<Blob, OutOfMemory>
     Blob::from_slice(alloc, text.as_bytes())
 }
 
-fn question(alloc: Global) -> Result<Blob, OutOfMemory> {
-    blob(alloc, QUESTION)
-}
-
-fn layer(alloc: Global, setting: Setting) -> Result<Layer, OutOfMemory> {
-    let mut layer = Layer::new();
-    layer.put(alloc, setting)?;
-    Ok(layer)
-}
-
-fn timeouts(
-    alloc: Global,
-    operation: Option<u64>,
-    attempt: Option<u64>,
-) -> Result<Layer, OutOfMemory> {
-    let timeouts = TimeoutConfig {
-        connect: None,
-        read: None,
-        operation,
-        attempt,
-    };
-    layer(alloc, Setting::Timeouts(timeouts))
-}
-
-fn hook_failed(text: &'static str) -> Answer {
-    Answer::Hooked(HookAnswer {
-        change: None,
-        settings: Layer::new(),
-        failure: Some(Text::from_static(text)),
-    })
-}
-
-fn hook_timeout(alloc: Global, nanos: u64) -> Result<Answer, OutOfMemory> {
-    Ok(Answer::Hooked(HookAnswer {
-        change: None,
-        settings: timeouts(alloc, None, Some(nanos))?,
-        failure: None,
-    }))
-}
-
-fn request(alloc: Global, uri: &'static str, body: Body) -> Result<Answer, OutOfMemory> {
+fn request(alloc: Global, uri: &'static str) -> Result<Answer, OutOfMemory> {
     let request = HttpRequest {
         method: Text::from_static("GET"),
         uri: Text::from_static(uri),
         headers: Headers::new(),
-        body,
+        body: Body::Bytes(blob(alloc, QUESTION)?),
     };
     Ok(Answer::Request(Shared::new(alloc, request)?))
 }
@@ -203,11 +122,8 @@ fn outcome(alloc: Global, outcome: Outcome) -> Result<Answer, OutOfMemory> {
     Ok(Answer::Outcome(Shared::new(alloc, outcome)?))
 }
 
-fn outcome_failed(
-    alloc: Global,
-    kind: FaultKind,
-    text: &'static str,
-) -> Result<Answer, OutOfMemory> {
+fn failed(alloc: Global, text: &'static str) -> Result<Answer, OutOfMemory> {
+    let kind = FaultKind::Connector(ConnectorKind::Io);
     let text = Text::from_static(text);
     outcome(alloc, Outcome::Failed(Fault { kind, text }))
 }
