@@ -1,8 +1,9 @@
 //! Prints what retry classifiers say, how long retries wait, what a strategy decides and leaves in
-//! its bucket, and what the two interceptors of retries set.
+//! its bucket, what the two interceptors of retries set, and what chains of interceptors answer.
 #![tactic(auto)]
 
 mod backoffs;
+mod chains;
 mod classifiers;
 mod connections;
 mod decisions;
@@ -21,5 +22,6 @@ fn main(rt: HostRuntime) -> Result<()> {
     permits::print(&rt)?;
     classifiers::print(&rt)?;
     pauses::print(&rt)?;
-    connections::print(&rt)
+    connections::print(&rt)?;
+    chains::print(&rt)
 }
