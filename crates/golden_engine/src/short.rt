@@ -4,7 +4,7 @@
 use anyhow::Result;
 use orchestrate::{
     Answer, Invocation, InvokeError, Kind, Operation, ScriptAnswer, ScriptWorld, Step, StopPoint,
-    invoke, invoke_with_stop_point,
+    World, invoke, invoke_with_stop_point,
 };
 use run_grammar::ConfigureStage;
 use smithy_context::Layer;
@@ -28,7 +28,7 @@ fn print_whole(rt: &HostRuntime) -> Result<()> {
 }
 
 // How a run with fuel enough ends.
-fn whole(alloc: Global, world: &mut ScriptWorld) -> &'static str {
+fn whole<W: World>(alloc: Global, world: &mut W) -> &'static str {
     end_of(&invoke(alloc, "service", "operation", world, input(), 9))
 }
 
@@ -42,7 +42,7 @@ fn print_cut(rt: &HostRuntime) -> Result<()> {
 }
 
 // How a run with two units of fuel ends.
-fn cut(alloc: Global, world: &mut ScriptWorld) -> &'static str {
+fn cut<W: World>(alloc: Global, world: &mut W) -> &'static str {
     let stop = StopPoint::BeforeTransmit;
     match invoke_with_stop_point(alloc, "service", "operation", world, input(), stop, 2) {
         Ok(_) => "stopped",
@@ -64,10 +64,10 @@ fn print_steps(rt: &HostRuntime) -> Result<()> {
 }
 
 // What driving the run once comes to.
-fn taken(
+fn taken<W: World>(
     alloc: Global,
     invocation: &mut Invocation,
-    world: &mut ScriptWorld,
+    world: &mut W,
 ) -> Result<&'static str, OutOfMemory> {
     match invocation.drive(alloc, world)? {
         Step::Asked => Ok("asked"),
@@ -83,13 +83,22 @@ fn print_operation(rt: &HostRuntime) -> Result<()> {
         service,
         Text::from_static("Brew"),
     );
-    let end = end_of(&operation.invoke(rt.alloc(), &mut world, input(), 9));
+    let end = invoked(rt.alloc(), &operation, &mut world);
     println!(rt; "an operation over payloads: {end}")?;
     let copy = operation.clone()?;
     let service = copy.service_name();
     let name = copy.operation_name();
     println!(rt; "  its copy: {service}, {name}")?;
     Ok(())
+}
+
+// How a run of this operation with fuel enough ends.
+fn invoked<W: World>(
+    alloc: Global,
+    operation: &Operation<Payload, Payload, Payload>,
+    world: &mut W,
+) -> &'static str {
+    end_of(&operation.invoke(alloc, world, input(), 9))
 }
 
 // How a run ended.
