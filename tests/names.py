@@ -21,16 +21,13 @@ from .support.program import TOP
 ELSEWHERE = {
     "acquire_adaptive_send_token",
     "call_once",
-    "f64",
     "finalize",
     "non_throttling_initial",
     "panic",
     "unittest",
     "opened_context",
-    "must-fail/a_sentence_with_underscores.edit",
     "ConfigBag",
     "client/http/body/",
-    "client/retries/",
 }
 
 PAGE = re.compile(
