@@ -4,11 +4,11 @@ The print follows from the script, from the kinds that a run asks and from its a
 the script is taken where its kind is asked next, and every other question has an answer of its own.
 """
 import json
-import subprocess
 from typing import Any, Dict, List
 
-from .support.engine_rows import CUTS, CUTS_WITH_ATTEMPT_DEADLINE, QUESTION, ROWS, Row
-from .support.program import EXAMPLES, ProgramTest, Ran, path
+from .support.direct import run
+from .support.engine_rows import CUTS, CUTS_WITH_ATTEMPT_DEADLINE, ROWS, Row
+from .support.program import EXAMPLES, ProgramTest, Ran
 from .support.scripts import to_lines, to_text
 
 # The statuses of `replay` by the first word of the last line; any other word is an error.
@@ -26,7 +26,7 @@ def script_of(row: Row) -> Script:
     """The row's script, with as much fuel as its run has calls."""
     return {
         "fuel": row.calls,
-        "input": [1, QUESTION],
+        "input": [1, "what are you?"],
         "output_kind": row.output_kind,
         "error_kind": row.error_kind,
         "stop": row.stop,
@@ -60,15 +60,7 @@ def print_of(row: Row) -> Lines:
 
 
 def replayed(script: Script) -> Ran:
-    """Runs the program itself: by `./smithy_replay` so many runs would take three times as long."""
-    ran = subprocess.run(
-        [path(), "replay"],
-        input=json.dumps(script).encode(),
-        stdout=subprocess.PIPE,
-        stderr=subprocess.DEVNULL,
-        check=False,
-    )
-    return Ran(ran.returncode, ran.stdout.decode(errors="replace"))
+    return run("replay", text=json.dumps(script))
 
 
 def ended(lines: Lines) -> Ran:

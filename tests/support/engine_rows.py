@@ -1,14 +1,28 @@
 """Worked runs of the engine: scripts of answers, the kinds of questions that their runs ask, and
 what they answer. They were worked out by hand, from the order in which a run asks its questions.
 """
-from typing import Any, List, NamedTuple, Optional, Tuple
+from typing import Any, List, NamedTuple, Optional
 
-# An answer of a script, and the kind of question that it is for.
-Line = Tuple[str, Any]
+from .replays import (
+    ATTEMPT_STARTED,
+    CHOOSE,
+    FINAL,
+    GO,
+    NO,
+    OPERATION,
+    OPERATION_STARTED,
+    OUTPUT,
+    READ,
+    SERIALIZE,
+    SIGNED,
+    STREAM,
+    TEAPOT,
+    TRANSMIT_PENDING,
+    client,
+)
 
-URI = "http://localhost:1234/"
-QUESTION = "what are you?"
-TEAPOT = "I'm a teapot!"
+# An answer of a script, behind the kind of question that it is for.
+Line = List[Any]
 
 
 class Row(NamedTuple):
@@ -42,58 +56,37 @@ class Pending(NamedTuple):
     setting: Any = None
 
 
-def timeouts(operation: Optional[int], attempt: Optional[int]) -> List[Any]:
-    """The setting of the two deadlines, each in ns or None."""
-    return ["timeouts", [None, None, operation, attempt]]
-
-
-def request(uri: str, body: Any = QUESTION) -> List[Any]:
-    """The answer that is a GET of this URI."""
-    return ["Request", ["GET", uri, [], body]]
-
-
 def configured(
     operation: Optional[int] = None, attempt: Optional[int] = None, final: Any = None
 ) -> List[Line]:
     """The answers to the three configurations: deadlines in ns, and a setting of the last one."""
-    return [
-        ("Configure Client", ["Layer", [timeouts(operation, attempt)]]),
-        ("Configure Operation", ["Layer", []]),
-        ("Configure Final", ["Layer", [final] if final else []]),
-    ]
+    last = ["Configure Final", ["Layer", [final]]] if final else FINAL
+    return [client(operation, attempt), OPERATION, last]
 
 
 # The parts of scripts.
-OPERATION_STARTED: List[Line] = [("Start Operation", "Started")]
-ATTEMPT_STARTED: List[Line] = [("Start Attempt", "Started")]
-SERIALIZED: List[Line] = [("Serialize", request("/"))]
-GRANTED: List[Line] = SERIALIZED + [("Initial", "Go")]
-CHOSEN: List[Line] = [("Choose", ["Chosen", "noAuth", ["", None], None, [], None])]
-OPENED: List[Line] = CHOSEN + [
-    ("Endpoint", ["Endpoint", ["http://localhost:1234", [], None]]),
-    ("Apply", request(URI)),
-    ("Sign", request(URI)),
+GRANTED = [SERIALIZE, GO]
+ANSWERED = [TEAPOT, *READ, OUTPUT]
+UNAVAILABLE = [
+    ["Transmit", ["Response", [503, [], ""]]],
+    STREAM,
+    ["Body", ["Read", ""]],
+    ["Deserialize", ["Outcome", ["Failed", ["Connector", "Io", "x"]]]],
 ]
-RESPONDED: List[Line] = [("Transmit", ["Response", [418, [], TEAPOT]]), ("Stream", "NotStreaming")]
-READ: List[Line] = RESPONDED + [("Body", ["Read", TEAPOT])]
-ANSWERED: List[Line] = READ + [("Deserialize", ["Outcome", ["Output", [1, TEAPOT]]])]
-UNAVAILABLE: List[Line] = [
-    ("Transmit", ["Response", [503, [], ""]]),
-    ("Stream", "NotStreaming"),
-    ("Body", ["Read", ""]),
-    ("Deserialize", ["Outcome", ["Failed", ["Connector", "Io", "x"]]]),
+REFUSED_BY_SERVICE = [
+    TEAPOT,
+    *READ,
+    ["Deserialize", ["Outcome", ["Failed", ["Operation", [2, "no"], "t"]]]],
 ]
-REFUSED_BY_SERVICE: List[Line] = READ + [
-    ("Deserialize", ["Outcome", ["Failed", ["Operation", [2, "no"], "t"]]]),
+DELAY_STARTED = [["Decide", ["Delay", 1_000_000_000]], ["Start Retry", "Started"]]
+DELAYED = [*DELAY_STARTED, ["Wait Retry", "Ready"]]
+OPERATION_PASSED = ["Wait Operation", "Ready"]
+CONNECTOR_FAILED = ["Transmit", ["Failed", "Io", "x"]]
+SERIALIZED_ONCE = ["Serialize", ["Request", ["GET", "/", [], ["Once", "what are you?"]]]]
+ATTEMPT_TIMED_BY_HOOK = [
+    "Hook read_before_attempt",
+    ["Hook", None, [["timeouts", [None, None, None, 5]]], None],
 ]
-DELAYED: List[Line] = [
-    ("Decide", ["Delay", 1000000000]),
-    ("Start Retry", "Started"),
-    ("Wait Retry", "Ready"),
-]
-DELAY_PENDING: List[Line] = DELAYED[:2] + [("Wait Retry", "Pending")]
-DECIDED: List[Line] = [("Decide", "No")]
-OPERATION_PASSED: List[Line] = [("Wait Operation", "Ready")]
 
 # The kinds that a run asks, in stretches.
 ASKED_CONFIGURED = [
@@ -144,7 +137,8 @@ ASKED_NOT_SENT = ASKED_UP_TO_GRANT + ASKED_SENT + ASKED_COMPLETED + ["Decide"] +
 ASKED_WITH_DEADLINE = ASKED_CONFIGURED + ["Start Operation"] + ASKED_SERIALIZED + ASKED_GRANTED
 
 # What runs answer.
-OUTPUT = ["Ok", [1, TEAPOT]]
+TEXT = "I'm a teapot!"
+ANSWERED_OUTPUT = ["Ok", [1, TEXT]]
 OPERATION_TIMEOUT = [
     "TimeoutError",
     ["Timeout", "operation timeout (all attempts including retries) occurred after 5 ns"],
@@ -154,7 +148,7 @@ ATTEMPT_TIMEOUT = [
     ["Timeout", "operation attempt timeout (single attempt) occurred after 5 ns"],
 ]
 
-WITHOUT_CONFIGURATION: List[Line] = [("Configure Client", ["Failed", "x"])]
+WITHOUT_CONFIGURATION = [["Configure Client", ["Failed", "x"]]]
 
 ENDED_EARLY = [
     Row(
@@ -177,57 +171,54 @@ ENDED_EARLY = [
 FAILED = [
     Row(
         name="a connector that fails",
-        script=configured() + GRANTED + OPENED + [("Transmit", ["Failed", "Io", "x"])] + DECIDED,
+        script=[*configured(), *GRANTED, *SIGNED, CONNECTOR_FAILED, NO],
         kinds=ASKED_NOT_SENT,
         calls=27,
         answer=["DispatchFailure", ["Connector", "Io", "x"]],
     ),
     Row(
         name="a decision behind answers that aren't asked for",
-        script=configured()
-        + GRANTED
-        + OPENED
-        + [("Transmit", ["Failed", "Io", "x"])]
-        + ANSWERED[1:]
-        + DECIDED,
+        script=[*configured(), *GRANTED, *SIGNED, CONNECTOR_FAILED, *ANSWERED[1:], NO],
         kinds=ASKED_NOT_SENT,
         calls=27,
         answer=["DispatchFailure", ["Other", "absent"]],
     ),
     Row(
         name="a body that can't be read",
-        script=configured() + GRANTED + OPENED + RESPONDED + [("Body", ["Failed", "x"])] + DECIDED,
-        kinds=ASKED_UP_TO_GRANT
-        + ASKED_SENT
-        + ASKED_READ
-        + ASKED_READ_AFTER
-        + ASKED_COMPLETED
-        + ["Decide"]
-        + ASKED_FINISHED,
+        script=[*configured(), *GRANTED, *SIGNED, TEAPOT, STREAM, ["Body", ["Failed", "x"]], NO],
+        kinds=[
+            *ASKED_UP_TO_GRANT,
+            *ASKED_SENT,
+            *ASKED_READ,
+            *ASKED_READ_AFTER,
+            *ASKED_COMPLETED,
+            "Decide",
+            *ASKED_FINISHED,
+        ],
         calls=33,
-        answer=["ResponseError", ["Response", "x"], [418, [], TEAPOT]],
+        answer=["ResponseError", ["Response", "x"], [418, [], TEXT]],
     ),
     Row(
         name="an error of the service",
-        script=configured() + GRANTED + OPENED + REFUSED_BY_SERVICE + DECIDED,
+        script=[*configured(), *GRANTED, *SIGNED, *REFUSED_BY_SERVICE, NO],
         kinds=ASKED_WHOLE_ATTEMPT,
         calls=34,
-        answer=["ServiceError", [2, "no"], [418, [], TEAPOT]],
+        answer=["ServiceError", [2, "no"], [418, [], TEXT]],
     ),
 ]
 
 OF_ANOTHER_TYPE = [
     Row(
         name="an output of another kind",
-        script=configured() + GRANTED + OPENED + ANSWERED + DECIDED,
+        script=[*configured(), *GRANTED, *SIGNED, *ANSWERED, NO],
         kinds=ASKED_WHOLE_ATTEMPT,
         calls=34,
-        answer=["WrongType", [1, TEAPOT]],
+        answer=["WrongType", [1, TEXT]],
         output_kind=3,
     ),
     Row(
         name="an error of another kind",
-        script=configured() + GRANTED + OPENED + REFUSED_BY_SERVICE + DECIDED,
+        script=[*configured(), *GRANTED, *SIGNED, *REFUSED_BY_SERVICE, NO],
         kinds=ASKED_WHOLE_ATTEMPT,
         calls=34,
         answer=["WrongType", [2, "no"]],
@@ -238,81 +229,93 @@ OF_ANOTHER_TYPE = [
 TRIED_AGAIN = [
     Row(
         name="a body that can be sent once isn't sent again",
-        script=configured()
-        + [("Serialize", request("/", ["Once", QUESTION])), ("Initial", "Go")]
-        + OPENED
-        + UNAVAILABLE
-        + DELAYED,
-        kinds=ASKED_UP_TO_GRANT + ASKED_ATTEMPT + ["Start Retry"] + ASKED_FINISHED,
+        script=[*configured(), SERIALIZED_ONCE, GO, *SIGNED, *UNAVAILABLE, *DELAYED],
+        kinds=[*ASKED_UP_TO_GRANT, *ASKED_ATTEMPT, "Start Retry", *ASKED_FINISHED],
         calls=35,
         answer=["DispatchFailure", ["Connector", "Io", "x"]],
     ),
     Row(
         name="a hook that sets a deadline for the next attempt",
-        script=configured()
-        + GRANTED
-        + [("Hook read_before_attempt", ["Hook", None, [timeouts(None, 5)], None])]
-        + OPENED
-        + UNAVAILABLE
-        + DELAYED
-        + OPENED
-        + ANSWERED
-        + DECIDED,
-        kinds=ASKED_UP_TO_GRANT
-        + ASKED_ATTEMPT
-        + ASKED_DELAYED
-        + ["Start Attempt"]
-        + ASKED_ATTEMPT
-        + ASKED_FINISHED,
+        script=[
+            *configured(),
+            *GRANTED,
+            ATTEMPT_TIMED_BY_HOOK,
+            *SIGNED,
+            *UNAVAILABLE,
+            *DELAYED,
+            *SIGNED,
+            *ANSWERED,
+            NO,
+        ],
+        kinds=[
+            *ASKED_UP_TO_GRANT,
+            *ASKED_ATTEMPT,
+            *ASKED_DELAYED,
+            "Start Attempt",
+            *ASKED_ATTEMPT,
+            *ASKED_FINISHED,
+        ],
         calls=58,
-        answer=OUTPUT,
+        answer=ANSWERED_OUTPUT,
     ),
 ]
 
 TIMED = [
     Row(
         name="an operation's deadline of 0 is started and never waited for",
-        script=configured(operation=0) + OPERATION_STARTED + GRANTED + OPENED + ANSWERED + DECIDED,
-        kinds=ASKED_WITH_DEADLINE + ASKED_ATTEMPT + ASKED_FINISHED,
+        script=[*configured(operation=0), OPERATION_STARTED, *GRANTED, *SIGNED, *ANSWERED, NO],
+        kinds=[*ASKED_WITH_DEADLINE, *ASKED_ATTEMPT, *ASKED_FINISHED],
         calls=35,
-        answer=OUTPUT,
+        answer=ANSWERED_OUTPUT,
     ),
     Row(
         name="the operation's deadline passes behind a park",
-        script=configured(operation=5)
-        + OPERATION_STARTED
-        + GRANTED
-        + OPENED
-        + [
-            ("Transmit", "Pending"),
-            ("Wait Operation", "Pending"),
-            ("Park", "Parked"),
-            ("Transmit", "Pending"),
-        ]
-        + OPERATION_PASSED,
-        kinds=ASKED_WITH_DEADLINE
-        + ASKED_SENT
-        + ["Wait Operation", "Park", "Transmit", "Wait Operation", "Abandon Transmit"]
-        + ASKED_COMPLETED
-        + ASKED_FINISHED,
+        script=[
+            *configured(operation=5),
+            OPERATION_STARTED,
+            *GRANTED,
+            *SIGNED,
+            TRANSMIT_PENDING,
+            ["Wait Operation", "Pending"],
+            ["Park", "Parked"],
+            TRANSMIT_PENDING,
+            OPERATION_PASSED,
+        ],
+        kinds=[
+            *ASKED_WITH_DEADLINE,
+            *ASKED_SENT,
+            "Wait Operation",
+            "Park",
+            "Transmit",
+            "Wait Operation",
+            "Abandon Transmit",
+            *ASKED_COMPLETED,
+            *ASKED_FINISHED,
+        ],
         calls=32,
         answer=OPERATION_TIMEOUT,
     ),
     Row(
         name="the attempt's deadline passes",
-        script=configured(attempt=5)
-        + GRANTED
-        + ATTEMPT_STARTED
-        + OPENED
-        + [("Transmit", "Pending"), ("Wait Attempt", "Ready")]
-        + DECIDED,
-        kinds=ASKED_UP_TO_GRANT
-        + ["Start Attempt"]
-        + ASKED_SENT
-        + ["Wait Attempt", "Abandon Transmit"]
-        + ASKED_COMPLETED
-        + ["Decide"]
-        + ASKED_FINISHED,
+        script=[
+            *configured(attempt=5),
+            *GRANTED,
+            ATTEMPT_STARTED,
+            *SIGNED,
+            TRANSMIT_PENDING,
+            ["Wait Attempt", "Ready"],
+            NO,
+        ],
+        kinds=[
+            *ASKED_UP_TO_GRANT,
+            "Start Attempt",
+            *ASKED_SENT,
+            "Wait Attempt",
+            "Abandon Transmit",
+            *ASKED_COMPLETED,
+            "Decide",
+            *ASKED_FINISHED,
+        ],
         calls=30,
         answer=ATTEMPT_TIMEOUT,
     ),
@@ -323,8 +326,8 @@ ROWS = ENDED_EARLY + FAILED + OF_ANOTHER_TYPE + TRIED_AGAIN + TIMED
 PENDING = [
     Pending(
         kind="Load",
-        script_before_attempt=SERIALIZED + [("Load", "Pending")],
-        kinds_before_attempt=ASKED_SERIALIZED + ["Load"],
+        script_before_attempt=[SERIALIZE, ["Load", "Pending"]],
+        kinds_before_attempt=[*ASKED_SERIALIZED, "Load"],
         script_of_attempt=[],
         kinds_of_attempt=[],
         is_in_attempt=False,
@@ -334,9 +337,13 @@ PENDING = [
     ),
     Pending(
         kind="Wait Send",
-        script_before_attempt=SERIALIZED
-        + [("Initial", ["Delay", 9]), ("Start Send", "Started"), ("Wait Send", "Pending")],
-        kinds_before_attempt=ASKED_SERIALIZED + ASKED_GRANTED + ["Start Send", "Wait Send"],
+        script_before_attempt=[
+            SERIALIZE,
+            ["Initial", ["Delay", 9]],
+            ["Start Send", "Started"],
+            ["Wait Send", "Pending"],
+        ],
+        kinds_before_attempt=[*ASKED_SERIALIZED, *ASKED_GRANTED, "Start Send", "Wait Send"],
         script_of_attempt=[],
         kinds_of_attempt=[],
         is_in_attempt=False,
@@ -346,8 +353,8 @@ PENDING = [
     Pending(
         kind="Choose",
         script_before_attempt=GRANTED,
-        kinds_before_attempt=ASKED_SERIALIZED + ASKED_GRANTED,
-        script_of_attempt=[("Choose", "Pending")],
+        kinds_before_attempt=[*ASKED_SERIALIZED, *ASKED_GRANTED],
+        script_of_attempt=[["Choose", "Pending"]],
         kinds_of_attempt=ASKED_CHOSEN,
         is_in_attempt=True,
         calls=20,
@@ -356,9 +363,9 @@ PENDING = [
     Pending(
         kind="Endpoint",
         script_before_attempt=GRANTED,
-        kinds_before_attempt=ASKED_SERIALIZED + ASKED_GRANTED,
-        script_of_attempt=CHOSEN + [("Endpoint", "Pending")],
-        kinds_of_attempt=ASKED_CHOSEN + ["Endpoint"],
+        kinds_before_attempt=[*ASKED_SERIALIZED, *ASKED_GRANTED],
+        script_of_attempt=[CHOOSE, ["Endpoint", "Pending"]],
+        kinds_of_attempt=[*ASKED_CHOSEN, "Endpoint"],
         is_in_attempt=True,
         calls=21,
         calls_with_attempt_deadline=23,
@@ -366,8 +373,8 @@ PENDING = [
     Pending(
         kind="Transmit",
         script_before_attempt=GRANTED,
-        kinds_before_attempt=ASKED_SERIALIZED + ASKED_GRANTED,
-        script_of_attempt=OPENED + [("Transmit", "Pending")],
+        kinds_before_attempt=[*ASKED_SERIALIZED, *ASKED_GRANTED],
+        script_of_attempt=[*SIGNED, TRANSMIT_PENDING],
         kinds_of_attempt=ASKED_SENT,
         is_in_attempt=True,
         calls=29,
@@ -376,9 +383,9 @@ PENDING = [
     Pending(
         kind="Body",
         script_before_attempt=GRANTED,
-        kinds_before_attempt=ASKED_SERIALIZED + ASKED_GRANTED,
-        script_of_attempt=OPENED + RESPONDED + [("Body", "Pending")],
-        kinds_of_attempt=ASKED_SENT + ASKED_READ,
+        kinds_before_attempt=[*ASKED_SERIALIZED, *ASKED_GRANTED],
+        script_of_attempt=[*SIGNED, TEAPOT, STREAM, ["Body", "Pending"]],
+        kinds_of_attempt=[*ASKED_SENT, *ASKED_READ],
         is_in_attempt=True,
         calls=34,
         calls_with_attempt_deadline=36,
@@ -386,9 +393,9 @@ PENDING = [
     Pending(
         kind="Wait Retry",
         script_before_attempt=GRANTED,
-        kinds_before_attempt=ASKED_SERIALIZED + ASKED_GRANTED,
-        script_of_attempt=OPENED + UNAVAILABLE + DELAY_PENDING,
-        kinds_of_attempt=ASKED_ATTEMPT + ASKED_DELAYED,
+        kinds_before_attempt=[*ASKED_SERIALIZED, *ASKED_GRANTED],
+        script_of_attempt=[*SIGNED, *UNAVAILABLE, *DELAY_STARTED, ["Wait Retry", "Pending"]],
+        kinds_of_attempt=[*ASKED_ATTEMPT, *ASKED_DELAYED],
         is_in_attempt=False,
         calls=39,
         calls_with_attempt_deadline=40,
@@ -405,22 +412,26 @@ def cut(pending: Pending, attempt: Optional[int] = None) -> Row:
     waits_for_attempt = is_timed and pending.is_in_attempt
     return Row(
         name=f"the operation's deadline passes while {pending.kind} is pending",
-        script=configured(operation=5, attempt=attempt, final=pending.setting)
-        + OPERATION_STARTED
-        + pending.script_before_attempt
-        + (ATTEMPT_STARTED if begins_timed_attempt else [])
-        + pending.script_of_attempt
-        + ([("Wait Attempt", "Pending")] if waits_for_attempt else [])
-        + OPERATION_PASSED,
-        kinds=ASKED_CONFIGURED
-        + ["Start Operation"]
-        + pending.kinds_before_attempt
-        + (["Start Attempt"] if begins_timed_attempt else [])
-        + pending.kinds_of_attempt
-        + (["Wait Attempt"] if waits_for_attempt else [])
-        + ["Wait Operation", f"Abandon {pending.kind}"]
-        + (ASKED_COMPLETED if pending.is_in_attempt else [])
-        + ASKED_FINISHED,
+        script=[
+            *configured(operation=5, attempt=attempt, final=pending.setting),
+            OPERATION_STARTED,
+            *pending.script_before_attempt,
+            *([ATTEMPT_STARTED] if begins_timed_attempt else []),
+            *pending.script_of_attempt,
+            *([["Wait Attempt", "Pending"]] if waits_for_attempt else []),
+            OPERATION_PASSED,
+        ],
+        kinds=[
+            *ASKED_CONFIGURED,
+            "Start Operation",
+            *pending.kinds_before_attempt,
+            *(["Start Attempt"] if begins_timed_attempt else []),
+            *pending.kinds_of_attempt,
+            *(["Wait Attempt"] if waits_for_attempt else []),
+            "Wait Operation", f"Abandon {pending.kind}",
+            *(ASKED_COMPLETED if pending.is_in_attempt else []),
+            *ASKED_FINISHED,
+        ],
         calls=pending.calls_with_attempt_deadline if is_timed else pending.calls,
         answer=OPERATION_TIMEOUT,
     )
