@@ -18,6 +18,7 @@ ROWS = TOP / "crates/golden_identity/out/golden_identity"
 NO_MEMORY = 5
 EXAMPLES = [
     (["replay"], "examples/teapot.json"),
+    (["replay"], "examples/retry.json"),
     (["check"], "examples/teapot.txt"),
     (["client"], "examples/client/a_retry_after_503.json"),
     (["client"], "examples/client/rows/two_retries.json"),
