@@ -73,15 +73,16 @@ fn print_joined<R: Wait>(
     Ok(())
 }
 
-// What a permit is for; 0 is none.
-fn amount_of(permit: &Option<Permit>) -> u32 {
+/// What a permit is for; 0 is none.
+pub fn amount_of(permit: &Option<Permit>) -> u32 {
     match permit {
         Some(permit) => permit.amount,
         None => 0,
     }
 }
 
-fn print_sums(rt: HostRuntime, sums: Sums) -> Result<()> {
+/// Prints the sums but for the capacity.
+pub fn print_sums(rt: HostRuntime, sums: Sums) -> Result<()> {
     println!(rt;
         "{} granted, {} available, {} held, {} forgotten",
         sums.granted, sums.available, sums.held, sums.forgotten
