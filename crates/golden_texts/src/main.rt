@@ -1,5 +1,7 @@
-//! Prints the texts of errors that no clause states.
+//! Prints the texts of errors that no clause states, and what the guards of bodies go by.
 #![tactic(auto)]
+
+mod guards;
 
 use anyhow::Result;
 use orchestrate::InvokeError;
@@ -21,7 +23,8 @@ fn main(rt: HostRuntime) -> Result<()> {
     print_text(&rt, &StrategyError::OutOfMemory)?;
     print_text(&rt, &FleetError::BadPlan { waiter: 7 })?;
     print_text(&rt, &FleetError::OutOfMemory)?;
-    print_text(&rt, &OutOfMemory)
+    print_text(&rt, &OutOfMemory)?;
+    guards::print(&rt)
 }
 
 // The error's text, on a line.
