@@ -160,18 +160,21 @@ fn print_written<I: Intercept + Debug>(
     Ok(())
 }
 
-fn post(alloc: Global) -> Result<Option<Shared<HttpRequest>>, OutOfMemory> {
-    let request = HttpRequest {
+fn post() -> HttpRequest {
+    HttpRequest {
         method: Text::from_static("POST"),
         uri: Text::from_static("/a"),
         headers: Headers::new(),
         body: Body::Bytes(Blob::new()),
-    };
+    }
+}
+
+fn shared(alloc: Global, request: HttpRequest) -> Result<Option<Shared<HttpRequest>>, OutOfMemory> {
     Ok(Some(Shared::new(alloc, request)?))
 }
 
 fn answer_text<I: Intercept>(alloc: Global, interceptor: &mut I, hook: Hook) -> Told<String> {
-    let request = post(alloc)?;
+    let request = shared(alloc, post())?;
     let answer = answered(
         alloc,
         interceptor,
