@@ -46,6 +46,24 @@ const APPLIED: &[Applied] = &[
         prefix: None,
     },
     Applied {
+        target: Some("/y?z=2"),
+        url: Some("http://h/x/?q=1"),
+        header: None,
+        prefix: None,
+    },
+    Applied {
+        target: Some("http://g?z=2"),
+        url: Some("http://h/x/"),
+        header: None,
+        prefix: None,
+    },
+    Applied {
+        target: Some("*"),
+        url: Some("http://[::1]:80"),
+        header: None,
+        prefix: None,
+    },
+    Applied {
         target: Some("/y"),
         url: Some("http://h"),
         header: None,
