@@ -123,7 +123,7 @@ impl Client {
     pub fn new(alloc: Global, row: &Row) -> Result<Client, OutOfMemory> {
         Ok(Client {
             call: Call::Idle,
-            outside: outside(alloc, row.come, &[], row.ending)?,
+            outside: outside(alloc, row.come, row.ending)?,
             has_sleep: row.sleep,
             settings: protecting(alloc, row.protection)?,
             request: request(alloc, row.sends)?,

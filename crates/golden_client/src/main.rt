@@ -5,8 +5,6 @@
 
 mod call_lines;
 mod calls;
-mod chooser;
-mod choosing;
 mod client;
 mod guarded;
 mod messages;
@@ -23,6 +21,5 @@ fn main(rt: HostRuntime) -> Result<()> {
     call_lines::print(&rt, "sleeps", sleeping::ROWS)?;
     call_lines::print(&rt, "calls", calls::ROWS)?;
     call_lines::print(&rt, "guards", guarded::ROWS)?;
-    chooser::print(&rt, choosing::ROWS)?;
     messages::print(&rt)
 }

@@ -1,13 +1,14 @@
-//! Serialize, Endpoint, Apply, Sign, Stream and Deserialize.
+//! Serialize, Endpoint, Apply, Sign, Stream and Deserialize, and an outside without identities.
 
-use crate::chooser::texts;
 use crate::said::answer_text;
+use crate::scripts::{self, Ending};
 use crate::service::{BytesSerializer, Scheme, StatusDeserializer};
 use crate::standing::prefixed;
 use client_auth::apply::{apply, resolve_endpoint};
 use client_auth::deserialize::{deserialize, stream};
 use client_auth::serialize::serialize;
 use client_auth::sign::sign;
+use outside::{IdentityPoll, Outside};
 use run_grammar::Answer;
 use smithy_types::{
     Blob, Body, Endpoint, EndpointHeader, Headers, HttpRequest, HttpResponse, Identity, List,
@@ -125,6 +126,15 @@ fn request(
         Some(target) => Ok(Some(request_to(alloc, target)?)),
         None => Ok(None),
     }
+}
+
+/// The list of these texts.
+pub fn texts(alloc: Global, values: &[&'static str]) -> Result<List<Text>, OutOfMemory> {
+    let mut list = List::new();
+    for value in values {
+        list.push(alloc, Text::from_static(*value))?;
+    }
+    Ok(list)
 }
 
 fn headers(alloc: Global, name: Option<&'static str>) -> Result<List<EndpointHeader>, OutOfMemory> {
@@ -282,6 +292,18 @@ fn deserialized(alloc: Global, status: Option<u16>) -> Result<Answer, OutOfMemor
     deserialize(alloc, &StatusDeserializer, &response, &settings)
 }
 
+// What an outside without identities answers to an ask for one.
+fn resolved(alloc: Global) -> Result<IdentityPoll, OutOfMemory> {
+    let mut outside = scripts::outside(alloc, &[], Ending::Plain)?;
+    outside.resolve(alloc, "key")
+}
+
+fn print_resolved(rt: &HostRuntime) -> anyhow::Result<()> {
+    let answer = resolved(rt.alloc())?;
+    println!(rt; "Resolve an identity that no script has: {answer:?}")?;
+    Ok(())
+}
+
 fn print_inputs(rt: &HostRuntime) -> anyhow::Result<()> {
     for input in INPUTS {
         let text = answer_text(rt.alloc(), &serialized(rt.alloc(), input)?)?;
@@ -333,6 +355,7 @@ fn print_responses(rt: &HostRuntime) -> anyhow::Result<()> {
 
 /// Prints what each question is answered.
 pub fn print(rt: &HostRuntime) -> anyhow::Result<()> {
+    print_resolved(rt)?;
     print_inputs(rt)?;
     print_endpoint(rt)?;
     print_applied(rt)?;

@@ -2,7 +2,7 @@
 
 use crate::noted::Asked;
 use anyhow::Result;
-use run_grammar::{Answer, Chosen};
+use run_grammar::Answer;
 use smithy_types::{Body, Outcome, Text};
 use std::alloc::Global;
 
@@ -18,7 +18,6 @@ pub fn answer_text(alloc: Global, answer: &Answer) -> Result<String> {
             let request = request.get();
             request_line(alloc, &request.method, &request.uri, &request.body)
         }
-        Answer::Chosen(chosen) => chosen_line(alloc, chosen),
         Answer::Endpoint(endpoint) => Ok(format!(in alloc; "endpoint {}", endpoint.get().url)?),
         Answer::Outcome(outcome) => outcome_line(alloc, outcome.get()),
         other => Ok(format!(in alloc; "{other:?}")?),
@@ -27,18 +26,6 @@ pub fn answer_text(alloc: Global, answer: &Answer) -> Result<String> {
 
 fn request_line(alloc: Global, method: &Text, uri: &Text, body: &Body) -> Result<String> {
     Ok(format!(in alloc; "{method} {uri}, {body:?}")?)
-}
-
-fn chosen_line(alloc: Global, chosen: &Chosen) -> Result<String> {
-    let bytes = chosen.identity.get().content.as_slice();
-    let url = match &chosen.endpoint {
-        Some(endpoint) => endpoint.get().url.as_str(),
-        None => "no endpoint",
-    };
-    Ok(format!(in alloc;
-        "{} with {bytes:?}, {url}, {:?}",
-        chosen.scheme, chosen.note
-    )?)
 }
 
 fn outcome_line(alloc: Global, outcome: &Outcome) -> Result<String> {

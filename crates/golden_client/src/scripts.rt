@@ -2,11 +2,8 @@
 
 use crate::noted::NotedOutside;
 use http_header::{HeaderMap, HeaderName, HeaderValue};
-use outside_scripted::{
-    Frame, IdentityAnswer, IdentityRecord, RecordAnswer, ResponseRecord, ScriptedOutside,
-    ScriptedResponse,
-};
-use smithy_types::{Blob, ConnectorKind, Headers, Identity, List, OutOfMemory, Shared, Text};
+use outside_scripted::{Frame, RecordAnswer, ResponseRecord, ScriptedOutside, ScriptedResponse};
+use smithy_types::{Blob, ConnectorKind, Headers, List, OutOfMemory, Shared, Text};
 use std::alloc::Global;
 
 /// How a body ends.
@@ -44,18 +41,6 @@ pub enum Comes {
     /// This response.
     Response(u64, Head),
 }
-
-/// What a load of an identity gives.
-#[derive(Clone, Copy)]
-pub enum Gives {
-    /// An identity of these bytes, which doesn't expire.
-    Bytes(&'static [u8]),
-    /// None, for this reason.
-    Failure(&'static str),
-}
-
-/// An identity's source: the id, how long a load takes in nanoseconds, and what it gives.
-pub type Source = (&'static str, u64, Gives);
 
 fn frames(alloc: Global, pieces: &[Piece]) -> Result<List<Frame>, OutOfMemory> {
     let mut frames = List::new();
@@ -119,43 +104,11 @@ fn records(alloc: Global, come: &[Comes]) -> Result<List<ResponseRecord>, OutOfM
     Ok(records)
 }
 
-fn identity(alloc: Global, bytes: &[u8]) -> Result<Identity, OutOfMemory> {
-    Ok(Identity {
-        content: Blob::from_slice(alloc, bytes)?,
-        expiration: None,
-    })
-}
-
-fn given(alloc: Global, gives: Gives) -> Result<IdentityAnswer, OutOfMemory> {
-    match gives {
-        Gives::Bytes(bytes) => Ok(IdentityAnswer::Identity(identity(alloc, bytes)?)),
-        Gives::Failure(text) => Ok(IdentityAnswer::Failed(Text::from_static(text))),
-    }
-}
-
-fn identities(alloc: Global, sources: &[Source]) -> Result<List<IdentityRecord>, OutOfMemory> {
-    let mut identities = List::new();
-    for (id, delay, gives) in sources {
-        let answer = given(alloc, *gives)?;
-        let record = IdentityRecord {
-            id: Text::from_static(*id),
-            delay: *delay,
-            answer,
-        };
-        identities.push(alloc, record)?;
-    }
-    Ok(identities)
-}
-
-/// An outside at moment 0 from which this comes, and whose bodies end so.
-pub fn outside(
-    alloc: Global,
-    come: &[Comes],
-    sources: &[Source],
-    ending: Ending,
-) -> Result<NotedOutside, OutOfMemory> {
+/// An outside at moment 0 from which this comes, and whose bodies end so. It has no identities.
+pub fn outside(alloc: Global, come: &[Comes], ending: Ending) -> Result<NotedOutside, OutOfMemory> {
+    let records = records(alloc, come)?;
+    let nobody = Shared::new(alloc, List::new())?;
     let mut script = ScriptedOutside::new(alloc, 0, List::new());
-    let identities = Shared::new(alloc, identities(alloc, sources)?)?;
-    script.begin_invocation(alloc, records(alloc, come)?, identities);
+    script.begin_invocation(alloc, records, nobody);
     Ok(NotedOutside::new(alloc, script, ending))
 }

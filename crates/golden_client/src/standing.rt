@@ -1,6 +1,5 @@
 //! The settings that stand.
 
-use crate::chooser::texts;
 use smithy_context::{Layer, Setting, Settings};
 use smithy_types::{OutOfMemory, StalledStreamProtectionConfig, Text};
 use std::alloc::Global;
@@ -74,22 +73,6 @@ pub fn protecting(alloc: Global, protection: Protection) -> Result<Settings, Out
     }
     if protection.length {
         layer.put(alloc, Setting::EnforceLength)?;
-    }
-    standing(alloc, layer)
-}
-
-/// Settings in which these names are preferred, and the mark of V2 stands or doesn't.
-pub fn choosing(
-    alloc: Global,
-    v2: bool,
-    prefers: Option<&'static [&'static str]>,
-) -> Result<Settings, OutOfMemory> {
-    let mut layer = Layer::new();
-    if v2 {
-        layer.put(alloc, Setting::V2)?;
-    }
-    if let Some(names) = prefers {
-        layer.put(alloc, Setting::Preference(texts(alloc, names)?))?;
     }
     standing(alloc, layer)
 }
