@@ -1,8 +1,8 @@
-//! Prints what no script of a client comes to: choices among the schemes that an endpoint lists,
-//! endpoints that set headers, requests that have a query or headers before they are signed, and
-//! what boxes and plugins of auth do. It is compared with a print made without it.
-#![tactic(auto)]
+//! Auth and endpoints where no script of a client comes: choices among the schemes that an endpoint
+//! lists, endpoints that set headers, requests that have a query or headers before they are signed,
+//! and what boxes and plugins of auth do.
 
+use crate::messages::texts;
 use anyhow::Result;
 use auth_endpoint::{
     AuthScheme, AuthSchemeAndEndpointOrchestrationV2, EndpointError, NoAuthRuntimePlugin,
@@ -178,33 +178,6 @@ const MOST_NAMES: u32 = 24576;
 
 /// A name that a full map has, and one that it hasn't.
 const NAMES: [&str; 2] = ["N7", "x-key"];
-
-fn main(rt: HostRuntime) -> Result<()> {
-    print_choices(&rt)?;
-    print_sent(&rt)?;
-    print_resolved(&rt)?;
-    print_plugins(&rt)?;
-    print_boxed(&rt)?;
-    for row in QUERIES {
-        print_query(&rt, row)?;
-    }
-    for row in TOKENS {
-        print_token(&rt, row)?;
-    }
-    for name in NAMES {
-        print_full(&rt, name)?;
-    }
-    Ok(())
-}
-
-// These texts, as a list.
-fn texts(alloc: Global, values: &[&'static str]) -> Result<List<Text>, OutOfMemory> {
-    let mut list = List::new();
-    for value in values {
-        list.push(alloc, Text::from_static(*value))?;
-    }
-    Ok(list)
-}
 
 // The place of the choice among `a`, `b` and `noAuth`.
 fn choice(
@@ -526,5 +499,24 @@ fn print_plugins(rt: &HostRuntime) -> Result<()> {
     }
     let setting = Setting::from(AuthSchemeAndEndpointOrchestrationV2);
     println!(rt; "{setting:?}")?;
+    Ok(())
+}
+
+/// Prints choices, endpoints, plugins, boxes and signed requests.
+pub fn print(rt: &HostRuntime) -> Result<()> {
+    print_choices(rt)?;
+    print_sent(rt)?;
+    print_resolved(rt)?;
+    print_plugins(rt)?;
+    print_boxed(rt)?;
+    for row in QUERIES {
+        print_query(rt, row)?;
+    }
+    for row in TOKENS {
+        print_token(rt, row)?;
+    }
+    for name in NAMES {
+        print_full(rt, name)?;
+    }
     Ok(())
 }
