@@ -28,8 +28,8 @@ NO_SCHEMES = (
     " or if there is a codegen bug."
 )
 
-# The options, the preference that they are put in order by, and the order. The last place of a
-# name in the preference counts.
+# The options, each a letter, the preference that they are put in order by, and the order. The last
+# place of a name in the preference counts.
 ORDERS = [
     ("bac", ["b", "a", "b"], "abc"),
     ("bac", ["x", "y"], "bac"),
@@ -50,10 +50,12 @@ def auth(
 
 
 def refused(option: str, reason: str) -> str:
+    """What is said of an option that isn't chosen."""
     return f' "{option}" wasn\'t a valid option because {reason}'
 
 
 def all_without_identity(options: str) -> str:
+    """What is said of these options, each a letter, where no identity is there for any."""
     return "".join(refused(option, NO_RESOLVER) for option in options)
 
 
