@@ -5,3 +5,4 @@ pub mod Partition
 pub mod Reserved
 pub mod Config
 pub mod Content
+pub mod TextContent

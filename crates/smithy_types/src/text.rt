@@ -1,18 +1,30 @@
-//! Texts that are shared.
+//! Texts that never change.
 ghost use Rattle.std.specs.Prelude.{◌≡◌, [], length, ◌==◌, IfOk, Some, nat_eq, string_bytes};
 ghost use Rattle.std.specs.Cmp.{partial_equiv_from_equiv};
 ghost use Rattle.std.specs.Cmp.Lexicographic.{pointwise, nat_list_eq_equiv};
 
 use crate::OutOfMemory;
+use arrayvec::ArrayString;
 use bytes::ByteStr;
 use std::alloc::{AllocError, Global};
 use std::fmt;
 use std::marker::Model;
 
-/// A text that is shared and never changes: a copy costs the same however long it is.
+/// The most bytes that stand in a text itself.
+const FEW: usize = 24;
+
+/// A text that never changes. A copy costs the same however long it is: a short one stands in the
+/// text itself and takes no memory, and all others are shared.
 #[derive(Drop)]
 pub struct Text {
-    text: ByteStr,
+    text: Content,
+}
+
+// A short text, or a shared one.
+#[derive(Drop)]
+enum Content {
+    Few(ArrayString<FEW>),
+    Shared(ByteStr),
 }
 
 impl Model for Text {
@@ -20,7 +32,9 @@ impl Model for Text {
 
     ghost Value = { List ℕ };
 
-    ghost view = { λ t. t.text };
+    ghost use Rattle.smithy_types.specs.TextContent.{text_of};
+
+    ghost view = { λ t. text_of t.text };
 }
 
 impl Text {
@@ -29,7 +43,7 @@ impl Text {
         ensures { result ≡ [] }
     {
         Text {
-            text: ByteStr::new(),
+            text: Content::Shared(ByteStr::new()),
         }
     }
 
@@ -37,9 +51,11 @@ impl Text {
     pub fn from_str(alloc: Global, text: &str) -> Result<Text, OutOfMemory>
         ensures { IfOk result (λ t. t ≡ text.now) }
     {
-        Ok(Text {
-            text: ByteStr::copy_from_str(alloc, text)?,
-        })
+        let text = match ArrayString::from(text) {
+            Ok(few) => Content::Few(few),
+            Err(_) => Content::Shared(ByteStr::copy_from_str(alloc, text)?),
+        };
+        Ok(Text { text })
     }
 
     /// A text of the program itself, which takes no memory.
@@ -47,7 +63,7 @@ impl Text {
         ensures { result ≡ text.now }
     {
         Text {
-            text: ByteStr::from_static(text),
+            text: Content::Shared(ByteStr::from_static(text)),
         }
     }
 
@@ -56,7 +72,7 @@ impl Text {
         ensures { IfOk result (λ t. t ≡ string_bytes text) }
     {
         Ok(Text {
-            text: ByteStr::from_string(text)?,
+            text: Content::Shared(ByteStr::from_string(text)?),
         })
     }
 
@@ -64,21 +80,24 @@ impl Text {
     pub fn as_str(&self) -> &str
         ensures { result.now ≡ self.now }
     {
-        self.text.as_str()
+        match &self.text {
+            Content::Few(few) => few.as_str(),
+            Content::Shared(shared) => shared.as_str(),
+        }
     }
 
     /// How many bytes of UTF-8 there are.
     pub fn len(&self) -> usize
         ensures { result ≡ length self.now }
     {
-        self.text.len()
+        self.as_str().len()
     }
 
     /// Whether the text is empty.
     pub fn is_empty(&self) -> bool
         ensures { result ≡ (length self.now == 0) }
     {
-        self.text.is_empty()
+        self.as_str().is_empty()
     }
 }
 
@@ -86,9 +105,11 @@ impl Clone for Text {
     ghost is_clone = { λ t copy. copy ≡ t };
 
     fn clone(&self) -> Result<Text, AllocError> {
-        Ok(Text {
-            text: self.text.clone()?,
-        })
+        let text = match &self.text {
+            Content::Few(few) => Content::Few(*few),
+            Content::Shared(shared) => Content::Shared(shared.clone()?),
+        };
+        Ok(Text { text })
     }
 }
 
