@@ -4,7 +4,6 @@ ghost use Rattle.run_grammar.specs.Fits.{fits};
 ghost use Rattle.run_grammar.specs.declared.answer.Answer.{Answer};
 ghost use Rattle.orchestrate.specs.Script.{default_for, next_of, left_by, RepliesBy};
 
-use crate::log::{with_entry, with_room};
 use crate::world::World;
 use run_grammar::{Answer, Entry, Kind, Question};
 use smithy_context::HookAnswer;
@@ -152,8 +151,11 @@ impl World for ScriptWorld {
     fn ask(&mut self, alloc: Global, question: Question) -> Result<Answer, OutOfMemory> {
         let kind = question.kind();
         let (noted, taken) = reply(self.answers.peek(), kind)?;
-        let entries = with_room(alloc, &mut self.log)?;
-        self.log = with_entry(entries, question, noted);
+        let entry = Entry {
+            question,
+            answer: noted,
+        };
+        self.log.push(alloc, entry)?;
         Ok(self.answers.answer(kind, taken))
     }
 

@@ -57,12 +57,14 @@ impl<T> List<T> {
     {
         match &mut self.items {
             Some(items) => {
-                items.push(item)?;
+                items.reserve(1)?;
+                items.push_reserved(item);
                 Ok(())
             }
             None => {
                 let mut items = Vec::new(alloc);
-                items.push(item)?;
+                items.reserve(1)?;
+                items.push_reserved(item);
                 self.items = Some(items);
                 Ok(())
             }
