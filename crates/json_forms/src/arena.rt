@@ -51,12 +51,15 @@ impl Arena {
         }
     }
 
-    /// The value of a text.
+    /// The value of a text. The memory of the value that was read before is used again.
     #[tactic(auto, using(crate::proofs::Ranges::in_ranges, crate::proofs::TextBytes::data_bytes), unfolding(crate::specs::View::view))]
     pub fn read_text<'t>(&'t mut self, text: &'t str) -> Result<Value<'t>, ReadError>
         ensures value { Gives view result (read text.now) }
         ensures bytes { IfOk result (λ v. of_bytes (view v) ≡ true) }
     {
+        if self.values.reset().is_err() {
+            return Err(ReadError::Memory);
+        }
         let mut reader = Reader::new(text, &mut self.texts)?;
         let value = whole(&self.values, &mut reader)?;
         if fits(&value) {

@@ -109,8 +109,9 @@ fn line_calls(alloc: Global, lines: &[&str]) -> Result<List<Call>, ReadError>
         (each_read (map read (map (λ l. l.now) lines.now)))) }
 {
     let mut calls = List::new();
+    let mut arena = Arena::new(alloc);
     for line in lines {
-        match line_call(alloc, *line) {
+        match line_call(alloc, &mut arena, *line) {
             Ok(call) => calls.push(alloc, call)?,
             Err(error) => return Err(error),
         }
@@ -119,10 +120,9 @@ fn line_calls(alloc: Global, lines: &[&str]) -> Result<List<Call>, ReadError>
 }
 
 // The call of a line.
-fn line_call(alloc: Global, line: &str) -> Result<Call, ReadError>
+fn line_call(alloc: Global, arena: &mut Arena, line: &str) -> Result<Call, ReadError>
     ensures { Reads result (option_and_then call_at (read line.now)) }
 {
-    let mut arena = Arena::new(alloc);
     read_call(alloc, &arena.read_text(line)?)
 }
 

@@ -1,5 +1,6 @@
 //! Chains of interceptors.
 ghost use Rattle.std.specs.Prelude.{◌≡◌, ◌&&◌, not, List, ◌⊎◌, IfOk, OnOk, OnErr};
+ghost use Rattle.std.specs.List.{list_any};
 ghost use Rattle.smithy_base.specs.Chain.{is_disabled, is_run, stands_in, Turn, RunsChain};
 ghost use Rattle.smithy_base.specs.Chain.{RunsInPart};
 ghost use Rattle.smithy_base.specs.Walk.{all_noted};
@@ -15,8 +16,9 @@ use std::alloc::Global;
 /// disabled by its name, on the view with the earlier changes and settings. A change that the hook
 /// may not make is ignored, and later ones run after a failure.
 ///
-/// The answer has the last change, the settings of all, and the last failure. Where memory is
-/// wanting, the interceptors that had run keep what they did.
+/// The answer has the last change, the settings of all, and the last failure. Where none overrides
+/// the hook nothing is copied. Where memory is wanting, the interceptors that had run keep what they
+/// did.
 pub fn run_chain<T: Intercept>(
     alloc: Global,
     chain: &mut [Slot<T>],
@@ -45,11 +47,21 @@ pub fn run_each<I: Intercept>(
     ensures err { OnErr result (RunsInPart I.names I.hooks I.runs hook view.now chain.old
         chain.new) }
 {
+    if !is_overridden(chain, hook) {
+        return Ok(HookAnswer::done());
+    }
     let mut walk = Walk::begin(view.clone()?);
     for i in 0..chain.len() {
         take_turn(alloc, &mut chain[i], hook, &mut walk)?;
     }
     Ok(walk.answer)
+}
+
+// Whether an interceptor of the chain overrides the hook.
+fn is_overridden<I: Intercept>(chain: &[I], hook: Hook) -> bool
+    ensures { result ≡ list_any (λ one. I.hooks one hook) chain.now }
+{
+    chain.iter().any(|one| one.overrides(hook))
 }
 
 // One interceptor's turn. Without memory it is as it was, or it had its turn.
