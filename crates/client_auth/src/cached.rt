@@ -212,13 +212,14 @@ fn chosen(
 ) -> Result<Answer, OutOfMemory>
     ensures { IfOk result (λ a. a ≡ chosen_so id identity endpoint note) }
 {
-    Ok(Answer::Chosen(Chosen {
+    let chosen = Chosen {
         scheme: id,
         identity: Shared::new(alloc, identity)?,
         endpoint,
         settings: Layer::new(),
         note: Some(note),
-    }))
+    };
+    Ok(Answer::Chosen(Shared::new(alloc, chosen)?))
 }
 
 // Asks the source of an open load.

@@ -190,13 +190,16 @@ fn resolve<X: Outside, R: ResolveIdentity>(
         None => Ok(Answer::Absent),
         Some(IdentityPoll::Pending) => Ok(Answer::Pending),
         Some(IdentityPoll::Failed(text)) => Ok(Answer::Failed(text)),
-        Some(IdentityPoll::Ready(identity)) => Ok(Answer::Chosen(Chosen {
-            scheme: id,
-            identity: Shared::new(alloc, identity)?,
-            endpoint,
-            settings: Layer::new(),
-            note: Some(ChooseNote::Uncached),
-        })),
+        Some(IdentityPoll::Ready(identity)) => {
+            let chosen = Chosen {
+                scheme: id,
+                identity: Shared::new(alloc, identity)?,
+                endpoint,
+                settings: Layer::new(),
+                note: Some(ChooseNote::Uncached),
+            };
+            Ok(Answer::Chosen(Shared::new(alloc, chosen)?))
+        }
     }
 }
 

@@ -12,13 +12,13 @@ use std::alloc::Global;
 pub fn serialize<Z: SerializeRequest>(
     alloc: Global,
     serializer: &Z,
-    input: &Option<Payload>,
+    input: &Option<Shared<Payload>>,
     settings: &Settings,
 ) -> Result<Answer, OutOfMemory>
     ensures { IfOk result (λ a. Serializes Z.serializes serializer.now input.now settings.now a) }
 {
     match input {
-        Some(input) => answer_of(alloc, serializer.serialize(alloc, input, settings)?),
+        Some(input) => answer_of(alloc, serializer.serialize(alloc, input.get(), settings)?),
         None => Ok(Answer::Absent),
     }
 }

@@ -115,7 +115,7 @@ impl<
         settings: &Settings,
         request: &Option<Shared<HttpRequest>>,
         response: &Option<Shared<HttpResponse>>,
-        outcome: &Option<Outcome>,
+        outcome: &Option<Shared<Outcome>>,
         attempt: u64,
     ) -> Result<Answer, OutOfMemory>
         ensures { IfOk result (λ a. Decides X.makes C.says
@@ -166,7 +166,7 @@ fn decided_view(
     settings: &Settings,
     request: &Option<Shared<HttpRequest>>,
     response: &Option<Shared<HttpResponse>>,
-    outcome: &Option<Outcome>,
+    outcome: &Option<Shared<Outcome>>,
     attempt: u64,
 ) -> Result<HookView, OutOfMemory>
     ensures { IfOk result (λ v. v ≡

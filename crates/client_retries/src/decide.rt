@@ -15,7 +15,7 @@ use retry_policy::{ClassifyRetry, Decision, StandardRetryStrategy, StrategyError
 use retry_quota::Quota;
 use run_grammar::Answer;
 use smithy_context::{HookView, InterceptorContext, Settings};
-use smithy_types::{Choice, DecideNote, OutOfMemory, Phase, RetryAction, Sums};
+use smithy_types::{Choice, DecideNote, OutOfMemory, Phase, RetryAction, Shared, Sums};
 use std::alloc::Global;
 
 /// Whether there is a further attempt: the classifiers, the clock, a random word and then the
@@ -110,7 +110,7 @@ fn decide_standard<X: Outside, Q: Quota, C: ClassifyRetry>(
                 reason: decision.reason,
                 sums: sums_in_force(quota, settings),
             };
-            Ok(Answer::Decided(paused(decision), Some(note)))
+            Ok(Answer::Decided(paused(decision), Some(Shared::new(alloc, note)?)))
         }
         None => Ok(Answer::Absent),
     }

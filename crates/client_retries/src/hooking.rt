@@ -17,7 +17,7 @@ use retry_policy::classify::run_each as run_classifiers;
 use retry_quota::Quota;
 use run_grammar::Answer;
 use smithy_base::run_each;
-use smithy_context::{HookAnswer, HookView};
+use smithy_context::{HookAnswer, HookReply, HookView};
 use smithy_types::{Hook, OutOfMemory, RetryAction};
 use std::alloc::Global;
 
@@ -54,12 +54,12 @@ pub fn hook<X: Outside, Q: Quota, C: ClassifyRetry, I: TakeOffer>(
         hook view.now interceptors.old quota.old a interceptors.new calls quota.new) }
 {
     if is_operations(hook) {
-        return Ok(Answer::Hooked(HookAnswer::done()));
+        return Ok(Answer::Hooked(HookReply::done()));
     }
     offer(alloc, classifiers, interceptors, quota, hook, view)?;
     let answer = run_each(alloc, interceptors, hook, view)?;
     poison(outside, hook, &answer);
-    Ok(Answer::Hooked(answer))
+    Ok(Answer::Hooked(HookReply::of(alloc, answer)?))
 }
 
 // Whether the hook is the operation's own first one.

@@ -19,12 +19,17 @@ use std::alloc::Global;
 /// Inputs by their bytes.
 const INPUTS: [Option<&'static [u8]>; 3] = [Some(b"hi"), Some(b""), None];
 
+fn payload(alloc: Global, bytes: &[u8]) -> Result<Shared<Payload>, OutOfMemory> {
+    let payload = Payload {
+        kind: 1,
+        bytes: Blob::from_slice(alloc, bytes)?,
+    };
+    Shared::new(alloc, payload)
+}
+
 fn serialized(alloc: Global, input: Option<&'static [u8]>) -> Result<Answer, OutOfMemory> {
     let input = match input {
-        Some(bytes) => Some(Payload {
-            kind: 1,
-            bytes: Blob::from_slice(alloc, bytes)?,
-        }),
+        Some(bytes) => Some(payload(alloc, bytes)?),
         None => None,
     };
     serialize(alloc, &BytesSerializer, &input, &prefixed(alloc, None)?)

@@ -53,7 +53,7 @@ fn cut<W: World>(alloc: Global, world: &mut W) -> &'static str {
 // A run that is driven one question at a time.
 fn print_steps(rt: &HostRuntime) -> Result<()> {
     let mut world = bare(rt.alloc())?;
-    let mut invocation = Invocation::start(input(), StopPoint::None);
+    let mut invocation = Invocation::start(rt.alloc(), input(), StopPoint::None)?;
     for _ in 0..4 {
         let step = taken(rt.alloc(), &mut invocation, &mut world)?;
         println!(rt; "one question at a time: {step}")?;

@@ -1,6 +1,6 @@
 //! One answer of each form.
 use run_grammar::{Answer, Chosen};
-use smithy_context::{Change, HookAnswer, Layer, Setting};
+use smithy_context::{Change, HookAnswer, HookReply, Layer, Setting};
 use smithy_types::{
     Blob, Body, Choice, ConnectorKind, Endpoint, Fault, FaultKind, Headers, HttpRequest,
     HttpResponse, Identity, List, OutOfMemory, Outcome, Payload, Shared, Text, TimeoutConfig,
@@ -156,13 +156,13 @@ fn hooked(alloc: Global, form: Form) -> Result<Answer, OutOfMemory> {
         Form::Fails => answer.failure = Some(Text::from_static("x")),
         _ => answer.change = written(alloc, form)?,
     }
-    Ok(Answer::Hooked(answer))
+    Ok(Answer::Hooked(HookReply::of(alloc, answer)?))
 }
 
 // What a hook writes.
 fn written(alloc: Global, form: Form) -> Result<Option<Change>, OutOfMemory> {
     match form {
-        Form::WritesInput => Ok(Some(Change::Input(payload(8)))),
+        Form::WritesInput => Ok(Some(Change::Input(Shared::new(alloc, payload(8))?))),
         Form::WritesRequest => Ok(Some(Change::Request(request(alloc, "/h", true)?))),
         Form::WritesResponse => Ok(Some(Change::Response(response(alloc)?))),
         Form::WritesOutput => Ok(Some(Change::Outcome(Shared::new(alloc, output())?))),
@@ -243,13 +243,14 @@ fn chosen(
         content: Blob::from_slice(alloc, b"id")?,
         expiration: None,
     };
-    Ok(Answer::Chosen(Chosen {
+    let chosen = Chosen {
         scheme: Text::from_static("noAuth"),
         identity: Shared::new(alloc, identity)?,
         endpoint,
         settings,
         note: None,
-    }))
+    };
+    Ok(Answer::Chosen(Shared::new(alloc, chosen)?))
 }
 
 fn layer(alloc: Global, setting: Setting) -> Result<Layer, OutOfMemory> {

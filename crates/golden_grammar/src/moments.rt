@@ -85,7 +85,7 @@ fn way_to(moment: Moment) -> &'static [(Kind, Form)] {
 
 /// What stands at the moment.
 pub fn standing(alloc: Global, moment: Moment) -> Result<Standing, OutOfMemory> {
-    let mut standing = Standing::new(payload(1));
+    let mut standing = Standing::new(alloc, payload(1))?;
     for (kind, form) in way_to(moment) {
         let answer = answer(alloc, *form)?;
         take_in(alloc, &mut standing, *kind, &answer)?;

@@ -1,7 +1,7 @@
 //! What a question hands on, as one line of text.
 use crate::told::{
-    bucket_of, tell, tell_endpoint, tell_identity, tell_outcome, tell_request, tell_response,
-    tell_view,
+    bucket_of, outcome_in, tell, tell_endpoint, tell_identity, tell_outcome, tell_request,
+    tell_response, tell_view,
 };
 use anyhow::Result;
 use run_grammar::Question;
@@ -47,7 +47,12 @@ fn tell_parts(alloc: Global, text: &mut String, question: &Question) -> Result<(
             tell(alloc, text, "attempt", Some(view.attempt))
         }
         Question::Serialize { input, .. } => {
-            tell(alloc, text, "input", input.as_ref().map(|input| input.kind))
+            tell(
+                alloc,
+                text,
+                "input",
+                input.as_ref().map(|input| input.get().kind),
+            )
         }
         Question::Load { request } => tell_request(alloc, text, request),
         Question::Start { nanos, .. } => tell(alloc, text, "nanos", *nanos),
@@ -92,7 +97,7 @@ fn tell_many(alloc: Global, text: &mut String, question: &Question) -> Result<()
         } => {
             tell_request(alloc, text, request)?;
             tell_response(alloc, text, response)?;
-            tell_outcome(alloc, text, outcome)?;
+            tell_outcome(alloc, text, outcome_in(outcome))?;
             tell(alloc, text, "attempt", Some(*attempt))
         }
         _ => Ok(()),

@@ -61,8 +61,13 @@ pub fn tell_response(
     Ok(())
 }
 
+/// The outcome behind a handle.
+pub fn outcome_in(outcome: &Option<Shared<Outcome>>) -> Option<&Outcome> {
+    outcome.as_ref().map(|outcome| outcome.get())
+}
+
 /// An output by its kind, a failure by its kind and text.
-pub fn tell_outcome(alloc: Global, text: &mut String, outcome: &Option<Outcome>) -> Result<()> {
+pub fn tell_outcome(alloc: Global, text: &mut String, outcome: Option<&Outcome>) -> Result<()> {
     match outcome {
         Some(Outcome::Output(output)) => tell(alloc, text, "output", Some(output.kind)),
         Some(Outcome::Failed(fault)) => {
@@ -104,11 +109,11 @@ pub fn tell_view(alloc: Global, text: &mut String, view: &HookView) -> Result<()
         alloc,
         text,
         "input",
-        view.input.as_ref().map(|input| input.kind),
+        view.input.as_ref().map(|input| input.get().kind),
     )?;
     tell_request(alloc, text, &view.request)?;
     tell_response(alloc, text, &view.response)?;
-    tell_outcome(alloc, text, &view.outcome)
+    tell_outcome(alloc, text, outcome_in(&view.outcome))
 }
 
 // The parts that only the engine reads.

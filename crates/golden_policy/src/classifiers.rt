@@ -31,13 +31,11 @@ const OPERATIONS: &[Standing] = &[Standing::Operation(4), Standing::Operation(5)
 const FAILURES: &[Standing] = &[Standing::Response, Standing::Timeout];
 
 /// A context in which this failed.
-pub fn failed(kind: FaultKind) -> InterceptorContext {
-    let mut ctx = InterceptorContext::new(payload(0));
-    ctx.fail(Fault {
-        kind,
-        text: Text::new(),
-    });
-    ctx
+pub fn failed(alloc: Global, kind: FaultKind) -> Result<InterceptorContext, OutOfMemory> {
+    let mut ctx = InterceptorContext::new(alloc, payload(0))?;
+    let text = Text::new();
+    ctx.fail(alloc, Fault { kind, text })?;
+    Ok(ctx)
 }
 
 fn answered(alloc: Global, status: u16) -> Result<InterceptorContext, OutOfMemory> {
@@ -47,7 +45,7 @@ fn answered(alloc: Global, status: u16) -> Result<InterceptorContext, OutOfMemor
         body: Body::Taken,
     };
     let response = Shared::new(alloc, response)?;
-    let mut ctx = InterceptorContext::new(payload(0));
+    let mut ctx = InterceptorContext::new(alloc, payload(0))?;
     ctx.view.response = Some(response);
     Ok(ctx)
 }
@@ -55,9 +53,9 @@ fn answered(alloc: Global, status: u16) -> Result<InterceptorContext, OutOfMemor
 fn context(alloc: Global, standing: Standing) -> Result<InterceptorContext, OutOfMemory> {
     match standing {
         Standing::Status(status) => answered(alloc, status),
-        Standing::Operation(kind) => Ok(failed(FaultKind::Operation(payload(kind)))),
-        Standing::Response => Ok(failed(FaultKind::Response)),
-        Standing::Timeout => Ok(failed(FaultKind::Timeout)),
+        Standing::Operation(kind) => failed(alloc, FaultKind::Operation(payload(kind))),
+        Standing::Response => failed(alloc, FaultKind::Response),
+        Standing::Timeout => failed(alloc, FaultKind::Timeout),
     }
 }
 

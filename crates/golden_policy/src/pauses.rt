@@ -77,7 +77,7 @@ fn verdict(alloc: Global, transient: bool, pauses: &[u64]) -> Result<RetryAction
         let refiner = Box::new(alloc, AddsAPause { nanos: *nanos })?;
         classifiers.push(alloc, Classifier::Boxed(refiner))?;
     }
-    let ctx = failed(FaultKind::Timeout);
+    let ctx = failed(alloc, FaultKind::Timeout)?;
     Ok(run_classifiers_on_ctx(classifiers.as_slice(), &ctx))
 }
 

@@ -57,19 +57,21 @@ pub fn settings(alloc: Global, retry: RetryConfig) -> Result<Settings, OutOfMemo
 }
 
 // The context of an attempt, in which a deadline passed or nothing failed.
-fn context(attempt: u64, failed: bool) -> InterceptorContext {
-    let mut ctx = InterceptorContext::new(Payload {
+fn context(alloc: Global, attempt: u64, failed: bool) -> Result<InterceptorContext, OutOfMemory> {
+    let input = Payload {
         kind: 0,
         bytes: Blob::new(),
-    });
+    };
+    let mut ctx = InterceptorContext::new(alloc, input)?;
     ctx.view.attempt = attempt;
     if failed {
-        ctx.fail(Fault {
+        let fault = Fault {
             kind: FaultKind::Timeout,
             text: Text::new(),
-        });
+        };
+        ctx.fail(alloc, fault)?;
     }
-    ctx
+    Ok(ctx)
 }
 
 fn is_failed(verdict: RetryAction) -> bool {
@@ -87,9 +89,10 @@ pub fn decide<Q: Quota>(
     quota: &mut Q,
 ) -> Result<Decision, StrategyError> {
     let settings = settings(alloc, asked.retry)?;
+    let context = context(alloc, asked.attempt, is_failed(asked.verdict))?;
     strategy.should_attempt_retry(
         alloc,
-        &context(asked.attempt, is_failed(asked.verdict)),
+        &context,
         &asked.verdict,
         &settings,
         quota,

@@ -58,20 +58,21 @@ impl Ending {
         ensures { IfOk result (λ e. stopped_ending_of head.now answer ≡ Some e) }
     {
         match answer {
-            Ok(context) => {
-                let (outcome, request) = standing(context.view);
-                Ok(Ending::of_standing(outcome, request))
-            }
+            Ok(context) => Ending::of_standing(context.view),
             Err(error) => Ending::of_failure(error, head.error_kind),
         }
     }
 
-    fn of_standing(outcome: Option<Outcome>, request: Option<Shared<HttpRequest>>) -> Ending
-        ensures { result ≡ stopped_by request outcome }
+    // An output that a hook wrote, which is copied, or else the request that stands.
+    fn of_standing(view: HookView) -> Result<Ending, OutOfMemory>
+        ensures { IfOk result (λ e. e ≡ stopped_by view.request view.outcome) }
     {
-        match outcome {
-            Some(Outcome::Output(output)) => Ending::Output(output),
-            _ => Ending::Stopped(request),
+        match &view.outcome {
+            Some(outcome) => match outcome.get() {
+                Outcome::Output(output) => Ok(Ending::Output(output.clone()?)),
+                Outcome::Failed(_) => Ok(Ending::Stopped(view.request)),
+            },
+            None => Ok(Ending::Stopped(view.request)),
         }
     }
 
@@ -117,14 +118,6 @@ impl Ending {
             }
         }
     }
-}
-
-// The outcome and the request that stand.
-fn standing(view: HookView) -> (Option<Outcome>, Option<Shared<HttpRequest>>)
-    ensures outcome { result.0 ≡ view.outcome }
-    ensures request { result.1 ≡ view.request }
-{
-    (view.outcome, view.request)
 }
 
 /// The last line of a print.

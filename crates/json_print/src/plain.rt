@@ -6,7 +6,6 @@ ghost use Rattle.json_print.specs.Plain.{PrintsAs, words_data};
 ghost use Rattle.json_print.specs.Print.{line};
 
 use itoa::Buffer;
-use json_values::answer::does_nothing;
 use json_values::names::kind_title;
 use run_grammar::{Answer, Kind};
 use smithy_types::OutOfMemory;
@@ -19,10 +18,9 @@ pub(crate) fn word_of(answer: &Answer) -> Option<&'static str>
     match answer {
         Answer::Pending => Some("Pending"),
         Answer::Absent => Some("Absent"),
-        Answer::Hooked(answer) => if does_nothing(answer) {
-            Some("Done")
-        } else {
-            None
+        Answer::Hooked(reply) => match reply.did() {
+            Some(_) => None,
+            None => Some("Done"),
         },
         Answer::Go => Some("Go"),
         Answer::No => Some("No"),

@@ -34,7 +34,7 @@ use json_forms::forms::{
 };
 use json_forms::{Json, ReadError, Row, Value, read};
 use run_grammar::{Answer, Chosen, Kind};
-use smithy_context::HookAnswer;
+use smithy_context::{HookAnswer, HookReply};
 use smithy_types::{OutOfMemory, Shared};
 use std::alloc::Global;
 
@@ -46,11 +46,11 @@ pub fn print_kind(alloc: Global, kind: Kind) -> Result<Json, OutOfMemory>
     Json::text(alloc, kind_title(kind))
 }
 
-/// Whether the hook writes nothing, sets nothing and doesn't fail.
-pub fn does_nothing(answer: &HookAnswer) -> bool
+// Whether the hook writes nothing, sets nothing and doesn't fail.
+fn does_nothing(answer: &HookAnswer) -> bool
     ensures { result ≡ does_nothing answer.now }
 {
-    answer.change.is_none() && answer.settings.is_empty() && answer.failure.is_none()
+    answer.does_nothing()
 }
 
 /// A hook's answer: `Done` where it does nothing.
@@ -66,6 +66,17 @@ pub fn print_hook_answer(alloc: Global, answer: &HookAnswer) -> Result<Json, Out
     let settings = print_layer(alloc, &answer.settings)?;
     let failure = print_optional_text(alloc, &answer.failure)?;
     Json::quadruple(alloc, tag, change, settings, failure)
+}
+
+// The same of an answer as a log keeps it.
+#[tactic(auto, unfolding(crate::specs::Values::hook_answer_data))]
+fn print_hook_reply(alloc: Global, reply: &HookReply) -> Result<Json, OutOfMemory>
+    ensures { IfOk result (λ j. data_of j ≡ hook_answer_data reply.now) }
+{
+    match reply.did() {
+        Some(answer) => print_hook_answer(alloc, answer),
+        None => Json::text(alloc, "Done"),
+    }
 }
 
 /// A scheme, an identity and what goes with them.
@@ -98,7 +109,7 @@ pub fn print_answer(alloc: Global, answer: &Answer) -> Result<Json, OutOfMemory>
             Json::triple(alloc, tag, kind, Json::text(alloc, text.as_str())?)
         }
         Answer::Layer(layer) => Json::tagged(alloc, "Layer", print_layer(alloc, layer)?),
-        Answer::Hooked(answer) => print_hook_answer(alloc, answer),
+        Answer::Hooked(reply) => print_hook_reply(alloc, reply),
         Answer::Request(request) => {
             Json::tagged(alloc, "Request", print_request(alloc, request.get())?)
         }
@@ -108,7 +119,7 @@ pub fn print_answer(alloc: Global, answer: &Answer) -> Result<Json, OutOfMemory>
         Answer::Delay(nanos) => Json::tagged(alloc, "Delay", Json::number(*nanos)),
         Answer::Started => Json::text(alloc, "Started"),
         Answer::Ready => Json::text(alloc, "Ready"),
-        Answer::Chosen(chosen) => print_chosen(alloc, chosen),
+        Answer::Chosen(chosen) => print_chosen(alloc, chosen.get()),
         Answer::Endpoint(endpoint) => {
             Json::tagged(alloc, "Endpoint", print_endpoint(alloc, endpoint.get())?)
         }
@@ -120,7 +131,7 @@ pub fn print_answer(alloc: Global, answer: &Answer) -> Result<Json, OutOfMemory>
             Json::tagged(alloc, "Outcome", print_outcome(alloc, outcome.get())?)
         }
         Answer::Read(bytes) => Json::tagged(alloc, "Read", print_blob(alloc, bytes)?),
-        Answer::Decided(choice, note) => print_decided(alloc, *choice, *note),
+        Answer::Decided(choice, note) => print_decided(alloc, *choice, note),
         Answer::Abandoned => Json::text(alloc, "Abandoned"),
         Answer::Parked => Json::text(alloc, "Parked"),
         Answer::NoMemory => Json::text(alloc, "NoMemory"),
@@ -156,13 +167,13 @@ fn unless_done(answer: HookAnswer) -> Result<HookAnswer, ReadError>
 
 /// A hook's answer.
 #[tactic(auto, unfolding(crate::specs::AnswerReadings::hook_answer_at))]
-pub fn read_hook_answer(alloc: Global, value: &Value) -> Result<HookAnswer, ReadError>
+pub fn read_hook_answer(alloc: Global, value: &Value) -> Result<HookReply, ReadError>
     ensures { Reads result (hook_answer_at (view value.now)) }
 {
     if says("Done", value) {
-        return Ok(HookAnswer::done());
+        return Ok(HookReply::done());
     }
-    read_hooked(alloc, value)
+    Ok(HookReply::of(alloc, read_hooked(alloc, value)?)?)
 }
 
 // The answer that there is no such part.
@@ -302,7 +313,8 @@ fn read_choosing(alloc: Global, value: &Value) -> Result<Answer, ReadError>
     ensures { Reads result (choosing_at (view value.now)) }
 {
     if starts("Chosen", value) {
-        return Ok(Answer::Chosen(read_chosen(alloc, value)?));
+        let chosen = read_chosen(alloc, value)?;
+        return Ok(Answer::Chosen(Shared::new(alloc, chosen)?));
     }
     read_waiting(alloc, value)
 }
@@ -389,14 +401,14 @@ fn read_body_read(alloc: Global, value: &Value) -> Result<Answer, ReadError>
 
 // A decision with its note.
 #[tactic(auto, unfolding(crate::specs::AnswerReadings::noted_at))]
-fn read_noted(value: &Value) -> Result<Answer, ReadError>
+fn read_noted(alloc: Global, value: &Value) -> Result<Answer, ReadError>
     ensures { Reads result (noted_at (view value.now)) }
 {
     let (tag, choice, note) = read::triple(value)?;
     read_word("Noted", tag)?;
     let choice = read_choice(choice)?;
     let note = read_decide_note(note)?;
-    Ok(Answer::Decided(choice, Some(note)))
+    Ok(Answer::Decided(choice, Some(Shared::new(alloc, note)?)))
 }
 
 // A decision without a note.
@@ -413,7 +425,7 @@ fn read_decided(alloc: Global, value: &Value) -> Result<Answer, ReadError>
     ensures { Reads result (decided_at (view value.now)) }
 {
     if starts("Noted", value) {
-        return read_noted(value);
+        return read_noted(alloc, value);
     }
     if starts("Failed", value) || says("Absent", value) {
         return read_absence(alloc, value);

@@ -92,7 +92,9 @@ pub fn print_change(alloc: Global, change: &Change) -> Result<Json, OutOfMemory>
     ensures { IfOk result (λ j. data_of j ≡ change_data change.now) }
 {
     match change {
-        Change::Input(payload) => Json::tagged(alloc, "Input", print_payload(alloc, payload)?),
+        Change::Input(payload) => {
+            Json::tagged(alloc, "Input", print_payload(alloc, payload.get())?)
+        }
         Change::Request(request) => {
             Json::tagged(alloc, "Request", print_request(alloc, request.get())?)
         }
@@ -245,7 +247,8 @@ pub fn read_change(alloc: Global, value: &Value) -> Result<Change, ReadError>
 {
     if starts("Input", value) {
         let payload = read_tagged("Input", value)?;
-        return Ok(Change::Input(read_payload(alloc, payload)?));
+        let payload = read_payload(alloc, payload)?;
+        return Ok(Change::Input(Shared::new(alloc, payload)?));
     }
     if starts("Request", value) {
         let request = read_tagged("Request", value)?;

@@ -16,7 +16,9 @@ use json_forms::forms::{
     print_optional_number, read_optional_number, read_tagged, read_word, says, starts,
 };
 use json_forms::{Json, ReadError, Row, Value, read};
-use smithy_types::{Choice, ChooseNote, DecideNote, OutOfMemory, Reason, RetryAction, Sums};
+use smithy_types::{
+    Choice, ChooseNote, DecideNote, OutOfMemory, Reason, RetryAction, Shared, Sums,
+};
 use std::alloc::Global;
 
 /// Null where there is no note.
@@ -122,15 +124,15 @@ pub fn print_decide_note(alloc: Global, note: DecideNote) -> Result<Json, OutOfM
 pub fn print_decided(
     alloc: Global,
     choice: Choice,
-    note: Option<DecideNote>,
+    note: &Option<Shared<DecideNote>>,
 ) -> Result<Json, OutOfMemory>
-    ensures { IfOk result (λ j. data_of j ≡ decided_data choice note) }
+    ensures { IfOk result (λ j. data_of j ≡ decided_data choice note.now) }
 {
     let choice = print_choice(alloc, choice)?;
     match note {
         Some(note) => {
             let tag = Json::text(alloc, "Noted")?;
-            Json::triple(alloc, tag, choice, print_decide_note(alloc, note)?)
+            Json::triple(alloc, tag, choice, print_decide_note(alloc, *note.get())?)
         }
         None => Ok(choice),
     }

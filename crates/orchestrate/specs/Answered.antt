@@ -16,7 +16,7 @@ use Rattle.orchestrate.specs.declared.execution.InvokeError.TheVariants.{Sdk, Un
 use Rattle.orchestrate.specs.Finish.{answer_of, failure_of}
 use Rattle.orchestrate.specs.Stands.{RunLost}
 
--- what a context at a run's end answers: its output or its error, or there is no memory for a copy of its response
+-- what a context at a run's end answers: its output or its error, or there is no memory for copies of its outcome and its response
 abbrev pub Answers : InterceptorContext → Result Payload (InvokeError Payload) → Type 0
 Answers c (Ok output) = answer_of c ≡ Ok output
 Answers c (Err (Sdk error)) = answer_of c ≡ Err error

@@ -108,7 +108,7 @@ fn run<W: World>(
     ensures related { IfOk result (λ r. HandedOn W.relates world.old world.new (W.calls world.old)
         (W.calls world.new)) }
 {
-    let mut invocation = Invocation::start(input, stop);
+    let mut invocation = Invocation::start(alloc, input, stop)?;
     for _ in 0..fuel {
         match invocation.drive(alloc, world)? {
             Step::Ended => return Ok(Some(invocation.into_standing())),

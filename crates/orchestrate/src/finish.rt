@@ -10,7 +10,7 @@ use smithy_types::{Fault, FaultKind, HttpResponse, OutOfMemory, Outcome, Payload
 const NO_OUTCOME: &'static str = "no outcome stands";
 
 /// The output that stands, or the error that the standing failure gives. Where neither stands it
-/// is an untyped failure. The response that is held is copied.
+/// is an untyped failure. Output, failure and response are copied.
 pub fn outcome(context: InterceptorContext) -> Result<Payload, InvokeError<Payload>>
     ensures { Answers context result }
 {
@@ -39,7 +39,7 @@ pub fn stopped(context: InterceptorContext) -> Result<InterceptorContext, Invoke
     }
 }
 
-// The error of the failure that stands. The response that is held is copied.
+// The error of the failure that stands. Failure and response are copied.
 fn failure(context: InterceptorContext) -> Result<SdkError<Payload>, OutOfMemory>
     ensures { IfOk result (λ e. e ≡ failure_of context) }
 {
@@ -53,7 +53,7 @@ fn failure(context: InterceptorContext) -> Result<SdkError<Payload>, OutOfMemory
     }
 }
 
-/// The outcome that stands in a view, and a copy of the response that it holds.
+/// Copies of the outcome that stands in a view and of the response that it holds.
 pub fn ending(view: HookView) -> Result<(Option<Outcome>, Option<HttpResponse>), OutOfMemory>
     ensures outcome { IfOk result (λ r. r.0 ≡ view.outcome) }
     ensures response { IfOk result (λ r. r.1 ≡ view.response) }
@@ -62,7 +62,11 @@ pub fn ending(view: HookView) -> Result<(Option<Outcome>, Option<HttpResponse>),
         Some(response) => Some(response.get().clone()?),
         None => None,
     };
-    Ok((view.outcome, response))
+    let outcome = match &view.outcome {
+        Some(outcome) => Some(outcome.get().clone()?),
+        None => None,
+    };
+    Ok((outcome, response))
 }
 
 /// The failure of a run in which neither an output nor a failure stands.

@@ -47,14 +47,14 @@ pub enum Step {
 }
 
 impl Invocation {
-    /// A run not begun. It takes no memory.
-    pub fn start(input: Payload, stop: StopPoint) -> Invocation
-        ensures fresh { result ≡ fresh input stop }
-        ensures stands { Stands (start input) [] result }
+    /// A run that asked nothing yet.
+    pub fn start(alloc: Global, input: Payload, stop: StopPoint) -> Result<Invocation, OutOfMemory>
+        ensures fresh { IfOk result (λ v. v ≡ fresh input stop) }
+        ensures stands { IfOk result (λ v. Stands (start input) [] v) }
     {
-        Invocation {
+        Ok(Invocation {
             stop,
-            standing: Standing::new(input),
+            standing: Standing::new(alloc, input)?,
             stage: Stage {
                 place: Place {
                     armed: Armed {
@@ -66,7 +66,7 @@ impl Invocation {
                 waiting: Waiting::NotWaiting,
             },
             lost: false,
-        }
+        })
     }
 
     /// Asks the world one question, or none where the run is whole. Where there is no memory this

@@ -6,7 +6,7 @@ ghost use Rattle.orchestrate.specs.Script.{default_for, next_of, left_by, Replie
 
 use crate::world::World;
 use run_grammar::{Answer, Entry, Kind, Question};
-use smithy_context::HookAnswer;
+use smithy_context::HookReply;
 use smithy_types::{List, OutOfMemory};
 use std::alloc::Global;
 use std::marker::Model;
@@ -188,7 +188,7 @@ fn default_for(kind: Kind) -> Answer
     ensures { result ≡ default_for kind }
 {
     match kind {
-        Kind::Hook(_) => Answer::Hooked(HookAnswer::done()),
+        Kind::Hook(_) => Answer::Hooked(HookReply::done()),
         Kind::Wait(_) => Answer::Ready,
         Kind::Abandon(_) => Answer::Abandoned,
         Kind::Park => Answer::Parked,

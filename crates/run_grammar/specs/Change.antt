@@ -11,6 +11,7 @@ use Rattle.smithy_context.specs.declared.context.InterceptorContext.{Interceptor
 use Rattle.smithy_types.specs.declared.fault.FaultKind.{FaultKind}
 use Rattle.smithy_types.specs.declared.fault.FaultKind.TheVariants as faults
 use Rattle.smithy_types.specs.declared.fault.Outcome.{Outcome}
+use Rattle.smithy_types.specs.declared.fault.Outcome.TheVariants as outcomes
 use Rattle.smithy_types.specs.declared.hook.Hook.{Hook}
 use Rattle.smithy_context.specs.Hooks.{writes_input, writes_request, writes_response, writes_outcome}
 use Rattle.smithy_types.specs.declared.http.Body.TheVariants as bodies
@@ -165,6 +166,11 @@ hook_failed h s (Some t) = fails_with s (faults.Interceptor h) t
 
 abbrev pub merged_into : Standing → List LayerEntry → Standing
 merged_into s l = with_settings s (with_merged s.context.view.settings l)
+
+-- the outcome that a hook's failure makes
+abbrev pub hook_failure : Hook → Option (List ℕ) → Option Outcome
+hook_failure h None = None
+hook_failure h (Some t) = Some (outcomes.Failed (record { kind = faults.Interceptor h; text = t }))
 
 -- the allowed change, then the layer, then the failure (interceptors.rs)
 abbrev pub hooked_by : Hook → Standing → HookAnswer → Standing

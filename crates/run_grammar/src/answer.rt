@@ -1,7 +1,7 @@
 //! What a world answers.
 ghost use Rattle.std.specs.Prelude.{◌≡◌};
 
-use smithy_context::{HookAnswer, Layer};
+use smithy_context::{HookReply, Layer};
 use smithy_types::{
     Blob, Choice, ChooseNote, ConnectorKind, DecideNote, Endpoint, HttpRequest, HttpResponse,
     Identity, Outcome, Shared, Text,
@@ -51,7 +51,7 @@ pub enum Answer {
     /// The settings of a step of the configuration.
     Layer(Layer),
     /// What the interceptors of a hook did.
-    Hooked(HookAnswer),
+    Hooked(HookReply),
     /// The request, made or rewritten.
     Request(Shared<HttpRequest>),
     /// The request's body, in memory.
@@ -67,7 +67,7 @@ pub enum Answer {
     /// The sleep is over.
     Ready,
     /// The scheme and the identity.
-    Chosen(Chosen),
+    Chosen(Shared<Chosen>),
     /// Where the request goes.
     Endpoint(Shared<Endpoint>),
     /// The response's head, with the body as far as it is there.
@@ -79,7 +79,7 @@ pub enum Answer {
     /// The response's body, whole.
     Read(Blob),
     /// Whether a further attempt is made, and from what that was decided.
-    Decided(Choice, Option<DecideNote>),
+    Decided(Choice, Option<Shared<DecideNote>>),
     /// What was pending is given up.
     Abandoned,
     /// The caller may have waited.
@@ -143,7 +143,7 @@ impl Clone for Answer {
             Answer::NotStreaming => Answer::NotStreaming,
             Answer::Outcome(outcome) => Answer::Outcome(outcome.clone()?),
             Answer::Read(bytes) => Answer::Read(bytes.clone()?),
-            Answer::Decided(choice, note) => Answer::Decided(*choice, *note),
+            Answer::Decided(choice, note) => Answer::Decided(*choice, note.clone()?),
             Answer::Abandoned => Answer::Abandoned,
             Answer::Parked => Answer::Parked,
             Answer::NoMemory => Answer::NoMemory,

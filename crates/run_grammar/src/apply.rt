@@ -34,49 +34,45 @@ impl Standing {
         match kind {
             Kind::Configure(stage) => self.configured(alloc, stage, answer),
             Kind::Hook(hook) => self.hooked(alloc, hook, answer),
-            Kind::Serialize => self.serialized(answer),
+            Kind::Serialize => self.serialized(alloc, answer),
             Kind::Load => self.loaded(alloc, answer),
-            Kind::Initial => self.granted(answer),
-            Kind::Start(role) => self.started(role, nanos, answer),
+            Kind::Initial => self.granted(alloc, answer),
+            Kind::Start(role) => self.started(alloc, role, nanos, answer),
             Kind::Wait(role) => self.waited(alloc, role, answer),
             Kind::Choose => self.chosen(alloc, answer),
-            Kind::Endpoint => self.resolved(answer),
-            Kind::Apply | Kind::Sign => self.rewritten(answer),
-            Kind::Transmit => self.transmitted(answer),
-            Kind::Stream => self.streamed(answer),
+            Kind::Endpoint => self.resolved(alloc, answer),
+            Kind::Apply | Kind::Sign => self.rewritten(alloc, answer),
+            Kind::Transmit => self.transmitted(alloc, answer),
+            Kind::Stream => self.streamed(alloc, answer),
             Kind::Body => self.body_read(alloc, answer),
-            Kind::Deserialize => self.deserialized(answer),
-            Kind::Decide => self.decided(answer),
+            Kind::Deserialize => self.deserialized(alloc, answer),
+            Kind::Decide => self.decided(alloc, answer),
             Kind::Abandon(_) | Kind::Park => Ok(()),
         }
     }
 
-    fn fail(&mut self, kind: FaultKind, text: Text)
-        ensures { self.new ≡ change.fails_with self.old kind text }
+    fn fail(&mut self, alloc: Global, kind: FaultKind, text: Text) -> Result<(), OutOfMemory>
+        ensures ok { OnOk result (self.new ≡ change.fails_with self.old kind text) }
+        ensures err { OnErr result (self.new ≡ self.old) }
     {
-        self.context.fail(Fault { kind, text });
+        self.context.fail(alloc, Fault { kind, text })
     }
 
-    fn be_absent(&mut self)
-        ensures { self.new ≡ change.absent self.old }
+    fn be_absent(&mut self, alloc: Global) -> Result<(), OutOfMemory>
+        ensures ok { OnOk result (self.new ≡ change.absent self.old) }
+        ensures err { OnErr result (self.new ≡ self.old) }
     {
-        self.fail(FaultKind::Other, Text::from_static(ABSENT));
+        self.fail(alloc, FaultKind::Other, Text::from_static(ABSENT))
     }
 
     // An untyped failure, or an absent part.
-    fn fail_by(&mut self, answer: &Answer) -> Result<(), OutOfMemory>
+    fn fail_by(&mut self, alloc: Global, answer: &Answer) -> Result<(), OutOfMemory>
         ensures ok { OnOk result (self.new ≡ change.or_fails self.old answer.now) }
         ensures err { OnErr result (self.new ≡ self.old) }
     {
         match answer {
-            Answer::Failed(text) => {
-                self.fail(FaultKind::Other, text.clone()?);
-                Ok(())
-            }
-            Answer::Absent => {
-                self.be_absent();
-                Ok(())
-            }
+            Answer::Failed(text) => self.fail(alloc, FaultKind::Other, text.clone()?),
+            Answer::Absent => self.be_absent(alloc),
             _ => Ok(()),
         }
     }
@@ -92,7 +88,7 @@ impl Standing {
     {
         match answer {
             Answer::Layer(layer) => self.layered(alloc, stage, layer),
-            _ => self.fail_by(answer),
+            _ => self.fail_by(alloc, answer),
         }
     }
 
@@ -119,7 +115,10 @@ impl Standing {
         ensures err { OnErr result (self.new ≡ self.old) }
     {
         match answer {
-            Answer::Hooked(answer) => self.hook_answered(alloc, hook, answer),
+            Answer::Hooked(reply) => match reply.did() {
+                Some(answer) => self.hook_answered(alloc, hook, answer),
+                None => Ok(()),
+            },
             _ => Ok(()),
         }
     }
@@ -133,13 +132,13 @@ impl Standing {
         ensures ok { OnOk result (self.new ≡ change.hooked_by hook self.old answer.now) }
         ensures err { OnErr result (self.new ≡ self.old) }
     {
-        let failure = answer.failure.clone()?;
+        let failure = failure_of(alloc, hook, &answer.failure)?;
         let mut settings = self.context.view.settings.clone()?;
         settings.merge(alloc, &answer.settings)?;
         self.write_any(hook, &answer.change)?;
         self.context.view.settings = settings;
-        if let Some(text) = failure {
-            self.fail(FaultKind::Interceptor(hook), text);
+        if let Some(failure) = failure {
+            self.context.view.outcome = Some(failure);
         }
         Ok(())
     }
@@ -182,14 +181,14 @@ impl Standing {
             }
             Change::Outcome(changed) => {
                 if writes_outcome(hook) {
-                    self.context.view.outcome = Some(changed.get().clone()?);
+                    self.context.view.outcome = Some(changed.clone()?);
                 }
             }
         }
         Ok(())
     }
 
-    fn serialized(&mut self, answer: &Answer) -> Result<(), OutOfMemory>
+    fn serialized(&mut self, alloc: Global, answer: &Answer) -> Result<(), OutOfMemory>
         ensures ok { OnOk result (self.new ≡ change.on_serialize self.old answer.now) }
         ensures err { OnErr result (self.new ≡ self.old) }
     {
@@ -204,14 +203,13 @@ impl Standing {
                 Ok(())
             }
             Answer::Failed(text) => {
-                let text = text.clone()?;
+                self.fail(alloc, FaultKind::Other, text.clone()?)?;
                 self.begin_serialization();
-                self.fail(FaultKind::Other, text);
                 Ok(())
             }
             Answer::Absent => {
+                self.be_absent(alloc)?;
                 self.begin_serialization();
-                self.be_absent();
                 Ok(())
             }
             _ => {
@@ -239,11 +237,11 @@ impl Standing {
                 self.context.phase = Phase::BeforeTransmit;
                 Ok(())
             }
-            _ => self.fail_by(answer),
+            _ => self.fail_by(alloc, answer),
         }
     }
 
-    fn granted(&mut self, answer: &Answer) -> Result<(), OutOfMemory>
+    fn granted(&mut self, alloc: Global, answer: &Answer) -> Result<(), OutOfMemory>
         ensures ok { OnOk result (self.new ≡ change.on_initial self.old answer.now) }
         ensures err { OnErr result (self.new ≡ self.old) }
     {
@@ -251,7 +249,7 @@ impl Standing {
             Answer::Go => self.begin_attempts(),
             Answer::No => {
                 if self.context.view.attempt == 0 {
-                    self.fail(FaultKind::Other, Text::from_static(REFUSED));
+                    return self.fail(alloc, FaultKind::Other, Text::from_static(REFUSED));
                 }
                 Ok(())
             }
@@ -259,7 +257,7 @@ impl Standing {
                 self.delay = Some(*nanos);
                 Ok(())
             }
-            _ => self.fail_by(answer),
+            _ => self.fail_by(alloc, answer),
         }
     }
 
@@ -294,6 +292,7 @@ impl Standing {
 
     fn started(
         &mut self,
+        alloc: Global,
         role: Role,
         nanos: Option<u64>,
         answer: &Answer,
@@ -316,7 +315,7 @@ impl Standing {
             },
             Answer::Absent => {
                 if matches!(role, Role::Send | Role::Retry) {
-                    self.be_absent();
+                    return self.be_absent(alloc);
                 }
                 Ok(())
             }
@@ -333,14 +332,12 @@ impl Standing {
                 Role::Operation => {
                     let nanos = self.operation_deadline.unwrap_or(0);
                     let text = operation_timeout_text(alloc, nanos)?;
-                    self.fail(FaultKind::Timeout, text);
-                    Ok(())
+                    self.fail(alloc, FaultKind::Timeout, text)
                 }
                 Role::Attempt => {
                     let nanos = self.attempt_deadline.unwrap_or(0);
                     let text = attempt_timeout_text(alloc, nanos)?;
-                    self.fail(FaultKind::Timeout, text);
-                    Ok(())
+                    self.fail(alloc, FaultKind::Timeout, text)
                 }
                 Role::Send | Role::Retry | Role::LongPoll => Ok(()),
             },
@@ -353,8 +350,8 @@ impl Standing {
         ensures err { OnErr result (self.new ≡ self.old) }
     {
         match answer {
-            Answer::Chosen(chosen) => self.choose(alloc, chosen),
-            _ => self.fail_by(answer),
+            Answer::Chosen(chosen) => self.choose(alloc, chosen.get()),
+            _ => self.fail_by(alloc, answer),
         }
     }
 
@@ -372,7 +369,7 @@ impl Standing {
         Ok(())
     }
 
-    fn resolved(&mut self, answer: &Answer) -> Result<(), OutOfMemory>
+    fn resolved(&mut self, alloc: Global, answer: &Answer) -> Result<(), OutOfMemory>
         ensures ok { OnOk result (self.new ≡ change.on_endpoint self.old answer.now) }
         ensures err { OnErr result (self.new ≡ self.old) }
     {
@@ -381,11 +378,11 @@ impl Standing {
                 self.endpoint = Some(endpoint.clone()?);
                 Ok(())
             }
-            _ => self.fail_by(answer),
+            _ => self.fail_by(alloc, answer),
         }
     }
 
-    fn rewritten(&mut self, answer: &Answer) -> Result<(), OutOfMemory>
+    fn rewritten(&mut self, alloc: Global, answer: &Answer) -> Result<(), OutOfMemory>
         ensures ok { OnOk result (self.new ≡ change.on_request self.old answer.now) }
         ensures err { OnErr result (self.new ≡ self.old) }
     {
@@ -394,11 +391,11 @@ impl Standing {
                 self.context.view.request = Some(request.clone()?);
                 Ok(())
             }
-            _ => self.fail_by(answer),
+            _ => self.fail_by(alloc, answer),
         }
     }
 
-    fn transmitted(&mut self, answer: &Answer) -> Result<(), OutOfMemory>
+    fn transmitted(&mut self, alloc: Global, answer: &Answer) -> Result<(), OutOfMemory>
         ensures ok { OnOk result (self.new ≡ change.on_transmit self.old answer.now) }
         ensures err { OnErr result (self.new ≡ self.old) }
     {
@@ -410,29 +407,25 @@ impl Standing {
                 Ok(())
             }
             Answer::ConnectorFailed(kind, text) => {
-                let text = text.clone()?;
+                self.fail(alloc, FaultKind::Connector(*kind), text.clone()?)?;
                 self.context.phase = Phase::Transmit;
-                self.fail(FaultKind::Connector(*kind), text);
                 Ok(())
             }
             _ => {
-                self.fail_by(answer)?;
+                self.fail_by(alloc, answer)?;
                 self.context.phase = Phase::Transmit;
                 Ok(())
             }
         }
     }
 
-    fn streamed(&mut self, answer: &Answer) -> Result<(), OutOfMemory>
+    fn streamed(&mut self, alloc: Global, answer: &Answer) -> Result<(), OutOfMemory>
         ensures ok { OnOk result (self.new ≡ change.on_stream self.old answer.now) }
         ensures err { OnErr result (self.new ≡ self.old) }
     {
         match answer {
-            Answer::Outcome(outcome) => self.settle(outcome.get()),
-            Answer::Absent => {
-                self.settle_absent();
-                Ok(())
-            }
+            Answer::Outcome(outcome) => self.settle(outcome),
+            Answer::Absent => self.settle_absent(alloc),
             _ => {
                 self.context.phase = Phase::Deserialization;
                 Ok(())
@@ -451,35 +444,28 @@ impl Standing {
                 Ok(())
             }
             Answer::Failed(text) => {
-                let text = text.clone()?;
-                self.fail(FaultKind::Response, text);
+                self.fail(alloc, FaultKind::Response, text.clone()?)?;
                 self.context.phase = Phase::AfterDeserialization;
                 Ok(())
             }
-            Answer::Absent => {
-                self.settle_absent();
-                Ok(())
-            }
+            Answer::Absent => self.settle_absent(alloc),
             _ => Ok(()),
         }
     }
 
-    fn deserialized(&mut self, answer: &Answer) -> Result<(), OutOfMemory>
+    fn deserialized(&mut self, alloc: Global, answer: &Answer) -> Result<(), OutOfMemory>
         ensures ok { OnOk result (self.new ≡ change.on_deserialize self.old answer.now) }
         ensures err { OnErr result (self.new ≡ self.old) }
     {
         match answer {
-            Answer::Outcome(outcome) => self.settle(outcome.get()),
-            Answer::Absent => {
-                self.settle_absent();
-                Ok(())
-            }
+            Answer::Outcome(outcome) => self.settle(outcome),
+            Answer::Absent => self.settle_absent(alloc),
             _ => Ok(()),
         }
     }
 
     // The outcome of the response stands.
-    fn settle(&mut self, outcome: &Outcome) -> Result<(), OutOfMemory>
+    fn settle(&mut self, outcome: &Shared<Outcome>) -> Result<(), OutOfMemory>
         ensures ok { OnOk result (self.new ≡ change.settled self.old outcome.now) }
         ensures err { OnErr result (self.new ≡ self.old) }
     {
@@ -488,14 +474,16 @@ impl Standing {
         Ok(())
     }
 
-    fn settle_absent(&mut self)
-        ensures { self.new ≡ change.settled_absent self.old }
+    fn settle_absent(&mut self, alloc: Global) -> Result<(), OutOfMemory>
+        ensures ok { OnOk result (self.new ≡ change.settled_absent self.old) }
+        ensures err { OnErr result (self.new ≡ self.old) }
     {
-        self.be_absent();
+        self.be_absent(alloc)?;
         self.context.phase = Phase::AfterDeserialization;
+        Ok(())
     }
 
-    fn decided(&mut self, answer: &Answer) -> Result<(), OutOfMemory>
+    fn decided(&mut self, alloc: Global, answer: &Answer) -> Result<(), OutOfMemory>
         ensures ok { OnOk result (self.new ≡ change.on_decide self.old answer.now) }
         ensures err { OnErr result (self.new ≡ self.old) }
     {
@@ -508,9 +496,27 @@ impl Standing {
                     Ok(())
                 }
             },
-            _ => self.fail_by(answer),
+            _ => self.fail_by(alloc, answer),
         }
     }
+}
+
+// The failure of a hook, where it failed.
+fn failure_of(
+    alloc: Global,
+    hook: Hook,
+    text: &Option<Text>,
+) -> Result<Option<Shared<Outcome>>, OutOfMemory>
+    ensures { IfOk result (λ o. o ≡ change.hook_failure hook text.now) }
+{
+    let Some(text) = text else {
+        return Ok(None);
+    };
+    let fault = Fault {
+        kind: FaultKind::Interceptor(hook),
+        text: text.clone()?,
+    };
+    Ok(Some(Shared::new(alloc, Outcome::Failed(fault))?))
 }
 
 // The request with these bytes as its body, where one stands.

@@ -5,7 +5,7 @@ ghost use Rattle.run_grammar.specs.Entry.{hook_fails, sets_failure, writes_failu
 
 use crate::{Answer, Kind, Role};
 use smithy_context::writes::writes_outcome;
-use smithy_context::{Change, HookAnswer};
+use smithy_context::{Change, HookAnswer, HookReply};
 use smithy_types::Outcome;
 
 impl Answer {
@@ -96,11 +96,21 @@ impl Answer {
             Answer::Failed(_) => true,
             Answer::ConnectorFailed(_, _) => true,
             Answer::No => attempt == 0,
-            Answer::Hooked(answer) => hook_fails(kind, answer),
+            Answer::Hooked(reply) => reply_fails(kind, reply),
             Answer::Outcome(outcome) => matches!(outcome.get(), Outcome::Failed(_)),
             Answer::Ready => matches!(kind, Kind::Wait(Role::Operation | Role::Attempt)),
             _ => false,
         }
+    }
+}
+
+// A hook that does nothing doesn't fail.
+fn reply_fails(kind: Kind, reply: &HookReply) -> bool
+    ensures { result ≡ hook_fails kind reply.now }
+{
+    match reply.did() {
+        Some(answer) => hook_fails(kind, answer),
+        None => false,
     }
 }
 

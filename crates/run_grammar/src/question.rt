@@ -21,7 +21,7 @@ pub enum Question {
     },
     /// For the request that the input is.
     Serialize {
-        input: Option<Payload>,
+        input: Option<Shared<Payload>>,
         settings: Settings,
     },
     /// For the request's body, in memory.
@@ -90,7 +90,7 @@ pub enum Question {
         settings: Settings,
         request: Option<Shared<HttpRequest>>,
         response: Option<Shared<HttpResponse>>,
-        outcome: Option<Outcome>,
+        outcome: Option<Shared<Outcome>>,
         /// The number of the attempt, from 1.
         attempt: u64,
     },

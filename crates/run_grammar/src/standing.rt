@@ -11,6 +11,7 @@ use smithy_types::{
     Endpoint, Identity, OutOfMemory, Payload, RetrySpec, RetrySpecVersion, Shared, Text,
     TimeoutConfig,
 };
+use std::alloc::Global;
 
 /// What stands in a run: the context that interceptors see, and what only the engine reads.
 #[derive(Drop)]
@@ -32,19 +33,19 @@ pub struct Standing {
 }
 
 impl Standing {
-    /// What stands at a run's start: the input, and nothing else. It takes no memory.
-    pub fn new(input: Payload) -> Standing
-        ensures { result ≡ starting input }
+    /// What stands at a run's start: the input, and nothing else.
+    pub fn new(alloc: Global, input: Payload) -> Result<Standing, OutOfMemory>
+        ensures { IfOk result (λ s. s ≡ starting input) }
     {
-        Standing {
-            context: InterceptorContext::new(input),
+        Ok(Standing {
+            context: InterceptorContext::new(alloc, input)?,
             scheme: None,
             identity: None,
             endpoint: None,
             delay: None,
             operation_deadline: None,
             attempt_deadline: None,
-        }
+        })
     }
 
     /// How long the sleep of this role is, in nanoseconds: the standing timeout of that name, or

@@ -14,7 +14,7 @@ use json_values::answer::read_answer;
 use json_values::names::hook_name;
 use json_values::setting::read_layer;
 use run_grammar::{Answer, Kind};
-use smithy_context::{Change, HookAnswer};
+use smithy_context::{Change, HookAnswer, HookReply};
 use smithy_types::{Fault, FaultKind, Hook, Outcome, Shared};
 use std::alloc::Global;
 
@@ -86,11 +86,12 @@ fn read_failing_hook(alloc: Global, value: &Value) -> Result<Answer, ReadError>
     let settings = read_layer(alloc, settings)?;
     let failure = read_optional_text(alloc, failure)?;
     let change = Change::Outcome(Shared::new(alloc, outcome)?);
-    Ok(Answer::Hooked(HookAnswer {
+    let answer = HookAnswer {
         change: Some(change),
         settings,
         failure,
-    }))
+    };
+    Ok(Answer::Hooked(HookReply::of(alloc, answer)?))
 }
 
 // An outcome that is a failure of a hook.

@@ -44,7 +44,7 @@ pub fn follow(
 {
     runs_are_accepted();
     let production = run(alloc, stop)?;
-    let mut standing = Standing::new(input);
+    let mut standing = Standing::new(alloc, input)?;
     let mut entries = Vec::new(alloc);
     let before = Seen {
         standing: &standing,

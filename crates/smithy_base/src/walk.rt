@@ -89,7 +89,7 @@ fn make_change(view: &mut HookView, change: &Change) -> Result<(), OutOfMemory>
         Change::Input(input) => view.input = Some(input.clone()?),
         Change::Request(request) => view.request = Some(request.clone()?),
         Change::Response(response) => view.response = Some(response.clone()?),
-        Change::Outcome(outcome) => view.outcome = Some(outcome.get().clone()?),
+        Change::Outcome(outcome) => view.outcome = Some(outcome.clone()?),
     }
     Ok(())
 }

@@ -7,3 +7,4 @@ pub mod Failures
 pub mod Context
 pub mod Hooks
 pub mod Looking
+pub mod Reply

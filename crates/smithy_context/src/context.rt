@@ -10,6 +10,7 @@ use smithy_types::{
     Body, Fault, FaultKind, HttpRequest, HttpResponse, OutOfMemory, Outcome, Payload, Phase,
     SdkError, Shared,
 };
+use std::alloc::Global;
 
 /// What stands in a run of an operation.
 #[derive(Drop)]
@@ -36,13 +37,13 @@ pub enum RewindResult {
 }
 
 impl InterceptorContext {
-    /// The context at a run's start: the input, and nothing else. It takes no memory.
-    pub fn new(input: Payload) -> InterceptorContext
-        ensures { result ≡ opened input }
+    /// The context at a run's start: the input, and nothing else.
+    pub fn new(alloc: Global, input: Payload) -> Result<InterceptorContext, OutOfMemory>
+        ensures { IfOk result (λ c. c ≡ opened input) }
     {
-        InterceptorContext {
+        Ok(InterceptorContext {
             view: HookView {
-                input: Some(input),
+                input: Some(Shared::new(alloc, input)?),
                 request: None,
                 response: None,
                 outcome: None,
@@ -52,7 +53,7 @@ impl InterceptorContext {
             phase: Phase::BeforeSerialization,
             checkpoint: None,
             tainted: false,
-        }
+        })
     }
 
     /// The context with the parts of this view, no checkpoint, and no rewind so far.
@@ -68,10 +69,12 @@ impl InterceptorContext {
     }
 
     /// Makes the outcome this failure, whatever stood.
-    pub fn fail(&mut self, fault: Fault)
-        ensures { self.new ≡ failed_with self.old fault }
+    pub fn fail(&mut self, alloc: Global, fault: Fault) -> Result<(), OutOfMemory>
+        ensures ok { OnOk result (self.new ≡ failed_with self.old fault) }
+        ensures err { OnErr result (self.new ≡ self.old) }
     {
-        self.view.outcome = Some(Outcome::Failed(fault));
+        self.view.outcome = Some(Shared::new(alloc, Outcome::Failed(fault))?);
+        Ok(())
     }
 
     /// Keeps a copy of the request where its body can be copied, and none otherwise.
@@ -128,14 +131,14 @@ impl InterceptorContext {
     pub fn is_failed(&self) -> bool
         ensures { result ≡ is_failure self.now.view.outcome }
     {
-        matches!(&self.view.outcome, Some(Outcome::Failed(_)))
+        matches!(self.outcome(), Some(Outcome::Failed(_)))
     }
 
     /// The operation's input, up to serialization.
     pub fn input(&self) -> Option<&Payload>
         ensures { option_copied result ≡ self.now.view.input }
     {
-        self.view.input.as_ref()
+        self.view.input.as_ref().map(|input| input.get())
     }
 
     /// The request as it stands.
@@ -156,7 +159,7 @@ impl InterceptorContext {
     pub fn outcome(&self) -> Option<&Outcome>
         ensures { option_copied result ≡ self.now.view.outcome }
     {
-        self.view.outcome.as_ref()
+        self.view.outcome.as_ref().map(|outcome| outcome.get())
     }
 
     /// The number of the attempt, from 1; 0 before the first.

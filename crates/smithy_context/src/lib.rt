@@ -12,7 +12,7 @@ pub mod writes;
 
 pub use cloneable::CloneableLayer;
 pub use context::{InterceptorContext, RewindResult};
-pub use intercept::{Change, HookAnswer, HookView};
+pub use intercept::{Change, HookAnswer, HookReply, HookView};
 pub use layer::{Layer, LayerEntry};
 pub use setting::{Setting, SettingKey};
 pub use settings::{FrozenLayer, Settings};

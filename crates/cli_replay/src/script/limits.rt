@@ -184,10 +184,13 @@ pub fn answer_fits(answer: &Answer) -> bool
         Answer::Failed(text) => text_fits(text),
         Answer::ConnectorFailed(_, text) => text_fits(text),
         Answer::Layer(layer) => layer_fits(layer),
-        Answer::Hooked(answer) => hook_answer_fits(answer),
+        Answer::Hooked(reply) => match reply.did() {
+            Some(answer) => hook_answer_fits(answer),
+            None => true,
+        },
         Answer::Request(request) => request_fits(request.get()),
         Answer::Loaded(bytes) => bytes_fit(bytes),
-        Answer::Chosen(chosen) => chosen_fits(chosen),
+        Answer::Chosen(chosen) => chosen_fits(chosen.get()),
         Answer::Endpoint(endpoint) => endpoint_fits(endpoint.get()),
         Answer::Response(response) => response_fits(response.get()),
         Answer::Outcome(outcome) => outcome_fits(outcome.get()),
@@ -237,8 +240,11 @@ pub fn add_keys(
 {
     match answer {
         Answer::Layer(layer) => add_entries(alloc, keys, layer.entries()),
-        Answer::Hooked(answer) => add_entries(alloc, keys, answer.settings.entries()),
-        Answer::Chosen(chosen) => add_entries(alloc, keys, chosen.settings.entries()),
+        Answer::Hooked(reply) => match reply.did() {
+            Some(answer) => add_entries(alloc, keys, answer.settings.entries()),
+            None => Ok(()),
+        },
+        Answer::Chosen(chosen) => add_entries(alloc, keys, chosen.get().settings.entries()),
         _ => Ok(()),
     }
 }

@@ -91,13 +91,14 @@ fn chosen(alloc: Global) -> Result<Answer, OutOfMemory> {
         content: Blob::new(),
         expiration: None,
     };
-    Ok(Answer::Chosen(Chosen {
+    let chosen = Chosen {
         scheme: Text::from_static("noAuth"),
         identity: Shared::new(alloc, identity)?,
         endpoint: None,
         settings: Layer::new(),
         note: None,
-    }))
+    };
+    Ok(Answer::Chosen(Shared::new(alloc, chosen)?))
 }
 
 fn endpoint(alloc: Global, url: &'static str) -> Result<Answer, OutOfMemory> {
