@@ -42,16 +42,6 @@ pub fn print_texts(alloc: Global, list: &List<Text>) -> Result<Json, OutOfMemory
     Ok(row.finish())
 }
 
-/// Null where there is no list.
-pub fn print_optional_texts(alloc: Global, list: &Option<List<Text>>) -> Result<Json, OutOfMemory>
-    ensures { IfOk result (λ j. data_of j ≡ null_or texts list.now) }
-{
-    match list {
-        Some(list) => print_texts(alloc, list),
-        None => Ok(Json::null()),
-    }
-}
-
 /// Null where there is no text.
 pub fn print_optional_text(alloc: Global, text: &Option<Text>) -> Result<Json, OutOfMemory>
     ensures { IfOk result (λ j. data_of j ≡ null_or string text.now) }
@@ -70,8 +60,8 @@ fn is_shown(byte: u8) -> bool
     (32 <= byte && byte <= 126) || byte == 9 || byte == 10 || byte == 13
 }
 
-// Whether each byte stands for itself.
-fn all_shown(bytes: &[u8]) -> bool
+/// Whether each byte stands for itself in a printed text.
+pub fn all_shown(bytes: &[u8]) -> bool
     ensures { result ≡ list_all is_shown bytes.now }
 {
     bytes.iter().all(|byte| is_shown(*byte))

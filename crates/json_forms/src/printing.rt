@@ -151,6 +151,20 @@ impl Json {
         })
     }
 
+    /// Writes the value as compact JSON text at the end. The text is of characters, and it is read
+    /// as the same value where that nests no deeper than a reader goes.
+    pub fn write(&self, alloc: Global, out: &mut Vec<u8>) -> Result<(), OutOfMemory>
+        ensures text { OnOk result (out.new.items ≡ out.old.items
+            ++ compact_text (data_of self.now)) }
+        ensures read_back { OnOk result (depth (data_of self.now) ≤ max_depth
+            → read (compact_text (data_of self.now)) ≡ Some (data_of self.now)) }
+        ensures characters { OnOk result (IsUtf8 (compact_text (data_of self.now))) }
+    {
+        let text = self.value.to_vec(alloc)?;
+        out.extend_from_slice(&text)?;
+        Ok(())
+    }
+
     /// Writes the value as compact JSON text at the end, and a line feed. The text is of
     /// characters, and it is read as the same value where that nests no deeper than a reader goes.
     pub fn write_line(&self, alloc: Global, out: &mut Vec<u8>) -> Result<(), OutOfMemory>
@@ -160,8 +174,7 @@ impl Json {
             → read (compact_text (data_of self.now)) ≡ Some (data_of self.now)) }
         ensures characters { OnOk result (IsUtf8 (compact_text (data_of self.now))) }
     {
-        let text = self.value.to_vec(alloc)?;
-        out.extend_from_slice(&text)?;
+        self.write(alloc, out)?;
         out.push(b'\n')?;
         Ok(())
     }

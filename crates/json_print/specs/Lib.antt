@@ -4,3 +4,4 @@ pub mod Print
 pub mod Laws
 pub mod Plain
 pub mod World
+pub mod Written

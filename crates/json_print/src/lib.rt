@@ -3,10 +3,13 @@
 //! (`determined`).
 #![tactic(auto)]
 
+mod answer;
 pub mod determined;
 pub mod ending;
+mod forms;
 pub mod head;
 pub mod laws;
+mod parts;
 mod plain;
 pub mod print;
 pub mod world;

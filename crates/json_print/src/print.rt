@@ -8,14 +8,17 @@ ghost use Rattle.json_forms.specs.JsonData.{data_of};
 ghost use Rattle.json_print.specs.Plain.{IsPlain};
 ghost use Rattle.json_print.specs.Print.{line, begin_data, transmitted, ending_data, entry_data};
 ghost use Rattle.json_print.specs.Print.{entries_data, entries_text, run_data, run_text};
+ghost use Rattle.json_print.specs.Written.{IsWritten};
 
+use crate::answer::write_answer;
 use crate::ending::{Ending, print_ending};
+use crate::forms::{write_number, write_word};
 use crate::head::RunHead;
+use crate::parts::write_request;
 use crate::plain::{word_of, write_words};
 use json_forms::{Json, Row};
-use json_values::answer::{print_answer, print_kind};
-use json_values::http::{print_payload, print_request};
-use json_values::names::stop_name;
+use json_values::http::print_payload;
+use json_values::names::{kind_title, stop_name};
 use run_grammar::{Answer, Entry, Question};
 use smithy_types::{HttpRequest, OutOfMemory, Shared};
 use std::alloc::Global;
@@ -135,7 +138,7 @@ fn plain_word(entry: &Entry) -> Option<&'static str>
     }
 }
 
-// Writes the line of an entry by the JSON value of its parts.
+// Writes the line of an entry part by part.
 fn write_parts(
     alloc: Global,
     number: u64,
@@ -147,8 +150,32 @@ fn write_parts(
     ensures readable { OnOk result (is_readable (entry_data number entry.now) ≡ true) }
     ensures characters { OnOk result (IsUtf8 (line (entry_data number entry.now))) }
 {
-    let json = print_entry(alloc, number, entry)?;
-    write(alloc, &json, out)?;
+    write_entry_row(alloc, number, entry, out)?;
+    out.push(b'\n')?;
+    Ok(())
+}
+
+// Writes an entry with its number, and the request of a transmission.
+#[tactic(auto, unfolding(crate::specs::Print::entry_data, json_values::specs::Values::kind_data))]
+fn write_entry_row(
+    alloc: Global,
+    number: u64,
+    entry: &Entry,
+    out: &mut Vec<u8>,
+) -> Result<(), OutOfMemory>
+    ensures { OnOk result (IsWritten (entry_data number entry.now) out.old.items out.new.items) }
+{
+    out.push(b'[')?;
+    write_number(number, out)?;
+    out.push(b',')?;
+    write_word(kind_title(entry.question.kind()), out)?;
+    out.push(b',')?;
+    write_answer(alloc, &entry.answer, out)?;
+    if let Some(request) = transmitted(&entry.question, &entry.answer) {
+        out.push(b',')?;
+        write_request(alloc, request, out)?;
+    }
+    out.push(b']')?;
     Ok(())
 }
 
@@ -161,21 +188,6 @@ pub fn next_number(number: u64) -> Result<u64, OutOfMemory>
         Some(next) => Ok(next),
         None => Err(OutOfMemory),
     }
-}
-
-// An entry with its number, and the request of a transmission.
-#[tactic(auto, unfolding(crate::specs::Print::entry_data))]
-fn print_entry(alloc: Global, number: u64, entry: &Entry) -> Result<Json, OutOfMemory>
-    ensures { IfOk result (λ j. data_of j ≡ entry_data number entry.now) }
-{
-    let mut row = Row::new(alloc);
-    row.push(Json::number(number))?;
-    row.push(print_kind(alloc, entry.question.kind())?)?;
-    row.push(print_answer(alloc, &entry.answer)?)?;
-    if let Some(request) = transmitted(&entry.question, &entry.answer) {
-        row.push(print_request(alloc, request)?)?;
-    }
-    Ok(row.finish())
 }
 
 // The request that a transmission was handed, once it isn't pending.

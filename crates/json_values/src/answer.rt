@@ -11,40 +11,25 @@ ghost use Rattle.json_values.specs.AnswerReadings.{said_at, answer_at, kind_at};
 ghost use Rattle.json_forms.specs.JsonData.{data_of};
 ghost use Rattle.json_forms.specs.Reading.{Reads};
 ghost use Rattle.json_forms.specs.View.{view};
-ghost use Rattle.json_values.specs.Values.{does_nothing, hook_answer_data, chosen_data, answer_data};
-ghost use Rattle.json_values.specs.Values.{kind_data};
+ghost use Rattle.json_values.specs.Values.{does_nothing, hook_answer_data};
 
 use crate::fault::{
-    print_connector_kind, print_optional_change, print_outcome, read_connector_kind,
-    read_optional_change, read_outcome,
+    print_optional_change, read_connector_kind, read_optional_change, read_outcome,
 };
 use crate::http::{
-    print_endpoint, print_identity, print_optional_endpoint, print_request, print_response,
     read_endpoint, read_identity, read_optional_endpoint, read_request, read_response,
 };
-use crate::names::{kind_named, kind_title};
-use crate::note::{
-    print_decided, print_optional_choose_note, read_choice, read_decide_note,
-    read_optional_choose_note,
-};
+use crate::names::kind_named;
+use crate::note::{read_choice, read_decide_note, read_optional_choose_note};
 use crate::setting::{print_layer, read_layer};
 use json_forms::forms::{
-    print_blob, print_optional_text, read_blob, read_optional_text, read_tagged, read_word, says,
-    starts,
+    print_optional_text, read_blob, read_optional_text, read_tagged, read_word, says, starts,
 };
-use json_forms::{Json, ReadError, Row, Value, read};
+use json_forms::{Json, ReadError, Value, read};
 use run_grammar::{Answer, Chosen, Kind};
 use smithy_context::{HookAnswer, HookReply};
 use smithy_types::{OutOfMemory, Shared};
 use std::alloc::Global;
-
-/// A kind of question.
-#[tactic(auto, unfolding(crate::specs::Values::kind_data))]
-pub fn print_kind(alloc: Global, kind: Kind) -> Result<Json, OutOfMemory>
-    ensures { IfOk result (λ j. data_of j ≡ kind_data kind) }
-{
-    Json::text(alloc, kind_title(kind))
-}
 
 // Whether the hook writes nothing, sets nothing and doesn't fail.
 fn does_nothing(answer: &HookAnswer) -> bool
@@ -66,76 +51,6 @@ pub fn print_hook_answer(alloc: Global, answer: &HookAnswer) -> Result<Json, Out
     let settings = print_layer(alloc, &answer.settings)?;
     let failure = print_optional_text(alloc, &answer.failure)?;
     Json::quadruple(alloc, tag, change, settings, failure)
-}
-
-// The same of an answer as a log keeps it.
-#[tactic(auto, unfolding(crate::specs::Values::hook_answer_data))]
-fn print_hook_reply(alloc: Global, reply: &HookReply) -> Result<Json, OutOfMemory>
-    ensures { IfOk result (λ j. data_of j ≡ hook_answer_data reply.now) }
-{
-    match reply.did() {
-        Some(answer) => print_hook_answer(alloc, answer),
-        None => Json::text(alloc, "Done"),
-    }
-}
-
-/// A scheme, an identity and what goes with them.
-#[tactic(auto, unfolding(crate::specs::Values::chosen_data))]
-pub fn print_chosen(alloc: Global, chosen: &Chosen) -> Result<Json, OutOfMemory>
-    ensures { IfOk result (λ j. data_of j ≡ chosen_data chosen.now) }
-{
-    let mut row = Row::new(alloc);
-    row.push(Json::text(alloc, "Chosen")?)?;
-    row.push(Json::text(alloc, chosen.scheme.as_str())?)?;
-    row.push(print_identity(alloc, chosen.identity.get())?)?;
-    row.push(print_optional_endpoint(alloc, &chosen.endpoint)?)?;
-    row.push(print_layer(alloc, &chosen.settings)?)?;
-    row.push(print_optional_choose_note(alloc, chosen.note)?)?;
-    Ok(row.finish())
-}
-
-/// An answer.
-#[tactic(auto, unfolding(crate::specs::Values::answer_data))]
-pub fn print_answer(alloc: Global, answer: &Answer) -> Result<Json, OutOfMemory>
-    ensures { IfOk result (λ j. data_of j ≡ answer_data answer.now) }
-{
-    match answer {
-        Answer::Pending => Json::text(alloc, "Pending"),
-        Answer::Absent => Json::text(alloc, "Absent"),
-        Answer::Failed(text) => { Json::tagged(alloc, "Failed", Json::text(alloc, text.as_str())?) }
-        Answer::ConnectorFailed(kind, text) => {
-            let tag = Json::text(alloc, "Failed")?;
-            let kind = print_connector_kind(alloc, *kind)?;
-            Json::triple(alloc, tag, kind, Json::text(alloc, text.as_str())?)
-        }
-        Answer::Layer(layer) => Json::tagged(alloc, "Layer", print_layer(alloc, layer)?),
-        Answer::Hooked(reply) => print_hook_reply(alloc, reply),
-        Answer::Request(request) => {
-            Json::tagged(alloc, "Request", print_request(alloc, request.get())?)
-        }
-        Answer::Loaded(bytes) => Json::tagged(alloc, "Loaded", print_blob(alloc, bytes)?),
-        Answer::Go => Json::text(alloc, "Go"),
-        Answer::No => Json::text(alloc, "No"),
-        Answer::Delay(nanos) => Json::tagged(alloc, "Delay", Json::number(*nanos)),
-        Answer::Started => Json::text(alloc, "Started"),
-        Answer::Ready => Json::text(alloc, "Ready"),
-        Answer::Chosen(chosen) => print_chosen(alloc, chosen.get()),
-        Answer::Endpoint(endpoint) => {
-            Json::tagged(alloc, "Endpoint", print_endpoint(alloc, endpoint.get())?)
-        }
-        Answer::Response(response) => {
-            Json::tagged(alloc, "Response", print_response(alloc, response.get())?)
-        }
-        Answer::NotStreaming => Json::text(alloc, "NotStreaming"),
-        Answer::Outcome(outcome) => {
-            Json::tagged(alloc, "Outcome", print_outcome(alloc, outcome.get())?)
-        }
-        Answer::Read(bytes) => Json::tagged(alloc, "Read", print_blob(alloc, bytes)?),
-        Answer::Decided(choice, note) => print_decided(alloc, *choice, note),
-        Answer::Abandoned => Json::text(alloc, "Abandoned"),
-        Answer::Parked => Json::text(alloc, "Parked"),
-        Answer::NoMemory => Json::text(alloc, "NoMemory"),
-    }
 }
 
 // A hook's answer that does something.

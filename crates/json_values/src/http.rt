@@ -2,7 +2,7 @@
 ghost use Rattle.std.specs.Prelude.{◌≡◌, IfOk, IfErr, OnOk};
 ghost use Rattle.std.specs.List.{list_all};
 ghost use Rattle.http_header.specs.Token.{is_token_byte, is_value_byte};
-ghost use Rattle.json_forms.specs.Forms.{optional_at, texts_at};
+ghost use Rattle.json_forms.specs.Forms.{optional_at};
 ghost use Rattle.json_forms.specs.JsonData.{data_of};
 ghost use Rattle.json_forms.specs.Lists.{list_of};
 ghost use Rattle.json_forms.specs.Reading.{Reads};
@@ -12,15 +12,13 @@ ghost use Rattle.json_values.specs.Readings.{sent_at, body_at, request_at, respo
 ghost use Rattle.json_values.specs.Readings.{endpoint_header_at, endpoint_at};
 ghost use Rattle.json_forms.specs.declared.read.ReadError.TheVariants.{Memory};
 ghost use Rattle.json_forms.specs.View.{view, items_view};
-ghost use Rattle.json_forms.specs.Prints.{null_or};
 ghost use Rattle.json_values.specs.Values.{payload_data, headers_data, body_data, request_data};
-ghost use Rattle.json_values.specs.Values.{response_data, identity_data, endpoint_header_data};
-ghost use Rattle.json_values.specs.Values.{endpoint_data};
+ghost use Rattle.json_values.specs.Values.{response_data};
 
 use http_header::{HeaderMap, HeaderName, HeaderValue, is_token_char};
 use json_forms::forms::{
-    print_blob, print_bytes, print_optional_number, print_optional_texts, print_texts, read_blob,
-    read_optional_number, read_optional_texts, read_tagged, read_texts, starts,
+    print_blob, print_bytes, read_blob, read_optional_number, read_optional_texts, read_tagged,
+    read_texts, starts,
 };
 use json_forms::{Json, ReadError, Row, Value, read};
 use smithy_types::{
@@ -96,56 +94,6 @@ pub fn print_response(alloc: Global, response: &HttpResponse) -> Result<Json, Ou
     let headers = print_headers(alloc, &response.headers)?;
     let body = print_body(alloc, &response.body)?;
     Json::triple(alloc, Json::number(response.status as u64), headers, body)
-}
-
-/// An identity.
-#[tactic(auto, unfolding(crate::specs::Values::identity_data))]
-pub fn print_identity(alloc: Global, identity: &Identity) -> Result<Json, OutOfMemory>
-    ensures { IfOk result (λ j. data_of j ≡ identity_data identity.now) }
-{
-    let content = print_blob(alloc, &identity.content)?;
-    Json::pair(alloc, content, print_optional_number(identity.expiration))
-}
-
-/// A header of an endpoint.
-#[tactic(auto, unfolding(crate::specs::Values::endpoint_header_data))]
-pub fn print_endpoint_header(alloc: Global, header: &EndpointHeader) -> Result<Json, OutOfMemory>
-    ensures { IfOk result (λ j. data_of j ≡ endpoint_header_data header.now) }
-{
-    Json::tagged(
-        alloc,
-        header.name.as_str(),
-        print_texts(alloc, &header.values)?,
-    )
-}
-
-/// An endpoint.
-#[tactic(auto, unfolding(crate::specs::Values::endpoint_data))]
-pub fn print_endpoint(alloc: Global, endpoint: &Endpoint) -> Result<Json, OutOfMemory>
-    ensures { IfOk result (λ j. data_of j ≡ endpoint_data endpoint.now) }
-{
-    let items = endpoint.headers.as_slice();
-    let mut row = Row::new(alloc);
-    for header in items {
-        row.push(print_endpoint_header(alloc, header)?)?;
-    }
-    let headers = row.finish();
-    let url = Json::text(alloc, endpoint.url.as_str())?;
-    let schemes = print_optional_texts(alloc, &endpoint.schemes)?;
-    Json::triple(alloc, url, headers, schemes)
-}
-
-/// Null where there is no endpoint.
-pub fn print_optional_endpoint(
-    alloc: Global,
-    endpoint: &Option<Shared<Endpoint>>,
-) -> Result<Json, OutOfMemory>
-    ensures { IfOk result (λ j. data_of j ≡ null_or endpoint_data endpoint.now) }
-{
-    match endpoint {
-        Some(endpoint) => print_endpoint(alloc, endpoint.get()),
-        None => Ok(Json::null()),
-    }
 }
 
 /// A payload.

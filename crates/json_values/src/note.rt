@@ -6,80 +6,14 @@ ghost use Rattle.json_forms.specs.Forms.{optional_at};
 ghost use Rattle.json_forms.specs.JsonData.{data_of};
 ghost use Rattle.json_forms.specs.Reading.{Reads};
 ghost use Rattle.json_forms.specs.Prints.{null_or};
-ghost use Rattle.json_values.specs.Values.{choose_note_data, choice_data, action_data, reason_data};
-ghost use Rattle.json_values.specs.Values.{sums_data, note_data, decided_data};
+ghost use Rattle.json_values.specs.Values.{sums_data};
 ghost use Rattle.json_forms.specs.View.{view};
 
 use crate::fault::read_error_kind;
-use crate::names::error_kind_name;
-use json_forms::forms::{
-    print_optional_number, read_optional_number, read_tagged, read_word, says, starts,
-};
+use json_forms::forms::{read_optional_number, read_tagged, read_word, says, starts};
 use json_forms::{Json, ReadError, Row, Value, read};
-use smithy_types::{
-    Choice, ChooseNote, DecideNote, OutOfMemory, Reason, RetryAction, Shared, Sums,
-};
+use smithy_types::{Choice, ChooseNote, DecideNote, OutOfMemory, Reason, RetryAction, Sums};
 use std::alloc::Global;
-
-/// Null where there is no note.
-#[tactic(auto, unfolding(crate::specs::Values::choose_note_data))]
-pub fn print_optional_choose_note(
-    alloc: Global,
-    note: Option<ChooseNote>,
-) -> Result<Json, OutOfMemory>
-    ensures { IfOk result (λ j. data_of j ≡ null_or choose_note_data note) }
-{
-    match note {
-        Some(ChooseNote::Hit) => Json::text(alloc, "Hit"),
-        Some(ChooseNote::Load) => Json::text(alloc, "Load"),
-        Some(ChooseNote::Uncached) => Json::text(alloc, "Uncached"),
-        None => Ok(Json::null()),
-    }
-}
-
-/// Whether a further attempt is made.
-#[tactic(auto, unfolding(crate::specs::Values::choice_data))]
-pub fn print_choice(alloc: Global, choice: Choice) -> Result<Json, OutOfMemory>
-    ensures { IfOk result (λ j. data_of j ≡ choice_data choice) }
-{
-    match choice {
-        Choice::Yes => Json::text(alloc, "Yes"),
-        Choice::No => Json::text(alloc, "No"),
-        Choice::NoAfter(nanos) => Json::tagged(alloc, "NoAfter", Json::number(nanos)),
-        Choice::Delay(nanos) => Json::tagged(alloc, "Delay", Json::number(nanos)),
-    }
-}
-
-/// What a classifier says.
-#[tactic(auto, unfolding(crate::specs::Values::action_data, crate::specs::Values::error_kind_data))]
-pub fn print_action(alloc: Global, action: RetryAction) -> Result<Json, OutOfMemory>
-    ensures { IfOk result (λ j. data_of j ≡ action_data action) }
-{
-    match action {
-        RetryAction::NoActionIndicated => Json::text(alloc, "NoActionIndicated"),
-        RetryAction::RetryIndicated { kind, retry_after } => {
-            let tag = Json::text(alloc, "RetryIndicated")?;
-            let kind = Json::text(alloc, error_kind_name(kind))?;
-            Json::triple(alloc, tag, kind, print_optional_number(retry_after))
-        }
-        RetryAction::RetryForbidden => Json::text(alloc, "RetryForbidden"),
-    }
-}
-
-/// Why a strategy chose so.
-#[tactic(auto, unfolding(crate::specs::Values::reason_data))]
-pub fn print_reason(alloc: Global, reason: Reason) -> Result<Json, OutOfMemory>
-    ensures { IfOk result (λ j. data_of j ≡ reason_data reason) }
-{
-    match reason {
-        Reason::NotIndicated => Json::text(alloc, "NotIndicated"),
-        Reason::OutOfAttempts => Json::text(alloc, "OutOfAttempts"),
-        Reason::NoQuota { cost } => Json::tagged(alloc, "NoQuota", Json::number(cost as u64)),
-        Reason::Granted { amount } => {
-            Json::tagged(alloc, "Granted", Json::number(amount as u64))
-        }
-    }
-}
 
 /// The sums of a bucket.
 #[tactic(auto, unfolding(crate::specs::Values::sums_data))]
@@ -102,39 +36,6 @@ pub fn print_optional_sums(alloc: Global, sums: Option<Sums>) -> Result<Json, Ou
     match sums {
         Some(sums) => print_sums(alloc, sums),
         None => Ok(Json::null()),
-    }
-}
-
-/// What a decision was made from.
-#[tactic(auto, unfolding(crate::specs::Values::note_data))]
-pub fn print_decide_note(alloc: Global, note: DecideNote) -> Result<Json, OutOfMemory>
-    ensures { IfOk result (λ j. data_of j ≡ note_data note) }
-{
-    let mut row = Row::new(alloc);
-    row.push(print_action(alloc, note.verdict)?)?;
-    row.push(print_optional_number(note.moment))?;
-    row.push(Json::number(note.word))?;
-    row.push(print_reason(alloc, note.reason)?)?;
-    row.push(print_optional_sums(alloc, note.sums)?)?;
-    Ok(row.finish())
-}
-
-/// A decision, with its note where it has one.
-#[tactic(auto, unfolding(crate::specs::Values::decided_data))]
-pub fn print_decided(
-    alloc: Global,
-    choice: Choice,
-    note: &Option<Shared<DecideNote>>,
-) -> Result<Json, OutOfMemory>
-    ensures { IfOk result (λ j. data_of j ≡ decided_data choice note.now) }
-{
-    let choice = print_choice(alloc, choice)?;
-    match note {
-        Some(note) => {
-            let tag = Json::text(alloc, "Noted")?;
-            Json::triple(alloc, tag, choice, print_decide_note(alloc, *note.get())?)
-        }
-        None => Ok(choice),
     }
 }
 

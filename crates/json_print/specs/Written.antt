@@ -1,0 +1,11 @@
+-- What was written for a value.
+use Rattle.std.specs.Prelude.{◌≡◌, ℕ, List, ◌++◌, true, IsUtf8}
+use Rattle.json_forms.specs.Carried.{is_carried}
+use Rattle.serde_json.specs.Data.{Data}
+use Rattle.serde_json.specs.Written.{compact_text}
+
+-- Behind what stood there is the compact text of the data. It is of characters, and it carries the data.
+pub record IsWritten (d : Data) (old new : List ℕ) : Type 0 where
+  pub text : new ≡ old ++ compact_text d
+  pub carried : is_carried d ≡ true
+  pub characters : IsUtf8 (compact_text d)
