@@ -4,6 +4,7 @@ ghost use Rattle.std.specs.Prelude.{◌≡◌, ◌≤◌, ◌/◌, ◌%◌, ◌<
 ghost use Rattle.std.specs.Char.{digit_char};
 ghost use Rattle.std.specs.List.{list_all};
 ghost use Rattle.json.specs.Print.{escape, escape_byte, quoted};
+ghost use Rattle.json.specs.Run.{is_plain};
 ghost use Rattle.json_forms.specs.JsonData.{data_of};
 ghost use Rattle.json_forms.specs.Prints.{row, num, null_or, texts, is_shown, blob_data};
 ghost use Rattle.json_print.specs.Written.{IsWritten};
@@ -145,14 +146,32 @@ pub(crate) fn write_text(text: &str, out: &mut Vec<u8>) -> Result<(), OutOfMemor
     Ok(())
 }
 
-// Writes the bytes of a text between quotes.
+// Writes the bytes of a text between quotes. Most texts need no escape, and are copied at once.
 fn write_quoted(bytes: &[u8], out: &mut Vec<u8>) -> Result<(), OutOfMemory>
     ensures { OnOk result (out.new.items ≡ out.old.items ++ quoted bytes.now) }
 {
     out.push(b'"')?;
-    write_escaped(bytes, out)?;
+    if all_plain(bytes) {
+        out.extend_from_slice(bytes)?;
+    } else {
+        write_escaped(bytes, out)?;
+    }
     out.push(b'"')?;
     Ok(())
+}
+
+// Whether no byte needs an escape.
+fn all_plain(bytes: &[u8]) -> bool
+    ensures { result ≡ list_all is_plain bytes.now }
+{
+    bytes.iter().all(|byte| is_plain(*byte))
+}
+
+// Whether the byte stands for itself in a text.
+fn is_plain(byte: u8) -> bool
+    ensures { result ≡ is_plain byte }
+{
+    byte != b'"' && byte != b'\\' && byte >= 32
 }
 
 // Writes each byte of a text, or its escape.
