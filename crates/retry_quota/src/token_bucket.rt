@@ -350,10 +350,13 @@ impl TokenBucket {
         self.granted = granted;
     }
 
-    // Takes the whole tokens out of the fraction and adds them.
+    // Takes the whole tokens out of the fraction and adds them. At most steps there are none.
     fn convert(&mut self)
         ensures { self.new ≡ convert self.old }
     {
+        if self.fraction < THOUSANDTHS {
+            return;
+        }
         let tokens = self.fraction / THOUSANDTHS;
         self.fraction %= THOUSANDTHS;
         self.add(tokens);
