@@ -1,7 +1,8 @@
 -- What an invocation stands for.
-use Rattle.std.specs.Prelude.{ℕ, length, ◌≤◌, true, false, Option, None, Some, List, [], ◌∷◌, ◌++◌, ◌≡◌, ◌⊎◌}
+use Rattle.std.specs.Prelude.{ℕ, length, ◌≤◌, true, false, if◌then◌else◌, Option, None, Some, option_map, List, [], ◌∷◌, ◌++◌, ◌≡◌, ◌⊎◌}
 use Rattle.smithy_types.specs.declared.kinds.StopPoint.{StopPoint}
 use Rattle.smithy_types.specs.declared.payload.Payload.{Payload}
+use Rattle.run_grammar.specs.declared.kind.Kind.{Kind}
 use Rattle.run_grammar.specs.declared.question.Question.{Question}
 use Rattle.run_grammar.specs.declared.answer.Answer.{Answer}
 use Rattle.run_grammar.specs.declared.answer.Answer.TheVariants.{NoMemory}
@@ -28,6 +29,10 @@ pub record Stands (s : State) (l : List Entry) (v : Invocation) : Type 0 where
   pub fitting : EachFits l
   pub at : stage_position v.stop v.stage ≡ after (begin (run v.stop) s) s l
   pub context : v.standing ≡ (standing s l).context
+
+-- the kind of the question that is next: none where the run is whole, or where memory ran out in it
+abbrev pub next_kind : Invocation → Option Kind
+next_kind v = if v.lost then None else option_map (λ p. asks_at p v.stage.waiting) v.stage.place.point
 
 -- the entry that the invocation makes at the point with this answer, and the invocation after it
 abbrev pub made : Invocation → Point → Answer → Entry

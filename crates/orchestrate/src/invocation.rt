@@ -1,15 +1,24 @@
 //! A run of an operation that is driven one question at a time.
-ghost use Rattle.std.specs.Prelude.{◌≡◌, [], true, IsErr, IfOk, OnOk, OnErr};
+ghost use Rattle.std.specs.Prelude.{◌≡◌, ℕ, List, [], true, IsErr, IfOk, OnOk, OnErr};
+ghost use Rattle.smithy_types.specs.declared.kinds.StopPoint.{StopPoint};
+ghost use Rattle.smithy_types.specs.declared.kinds.StopPoint.TheVariants as stops;
+ghost use Rattle.smithy_types.specs.declared.payload.Payload.{Payload};
+ghost use Rattle.run_grammar.specs.declared.answer.Entry.{Entry};
 ghost use Rattle.run_grammar.specs.Standing.{start};
 ghost use Rattle.orchestrate.specs.Fresh.{fresh};
 ghost use Rattle.orchestrate.specs.Handing.{HandedOn};
-ghost use Rattle.orchestrate.specs.Stands.{AskedOnce, AskedInVain, Drove, Lost, Stands};
+ghost use Rattle.orchestrate.specs.Answered.{ContextAnswered, PayloadAnswered};
+ghost use Rattle.orchestrate.specs.Stands.{AskedOnce, AskedInVain, Drove, Lost, Progress, Stands};
+ghost use Rattle.orchestrate.specs.Stands.{next_kind};
 
+use crate::execution::InvokeError;
+use crate::finish::{outcome, stopped};
 use crate::point::Point;
 use crate::reply::Reply;
 use crate::stage::{Armed, Place, Stage, Waiting, asks_at, moved};
 use crate::world::World;
-use run_grammar::{Standing, StopPoint};
+use run_grammar::{Kind, Standing, StopPoint};
+use smithy_context::InterceptorContext;
 use smithy_types::{OutOfMemory, Payload};
 use std::alloc::Global;
 use std::marker::Model;
@@ -91,6 +100,52 @@ impl Invocation {
         self.ask(alloc, world, point)?;
         self.lost = false;
         Ok(Step::Asked)
+    }
+
+    /// The kind of the question that is asked next. None where the run is whole, or where memory ran
+    /// out in it.
+    pub fn next_kind(&self) -> Option<Kind>
+        ensures { result ≡ next_kind self.now }
+    {
+        if self.lost {
+            return None;
+        }
+        match self.stage.place.point {
+            Some(point) => Some(asks_at(point, self.stage.waiting)),
+            None => None,
+        }
+    }
+
+    /// What a run to its end answers, as `invoke` does: its output, or its error. A run that isn't
+    /// whole is `Unfinished`, one in which memory ran out is `OutOfMemory`.
+    pub fn finish(self) -> Result<Payload, InvokeError<Payload>>
+        ensures { (p : Payload) (before log : List Entry) (calls : ℕ) →
+            Progress p stops.None self before log calls →
+            PayloadAnswered p calls result before log }
+    {
+        if self.lost {
+            return Err(InvokeError::OutOfMemory);
+        }
+        match self.point() {
+            Some(_) => Err(InvokeError::Unfinished),
+            None => outcome(self.into_standing().context),
+        }
+    }
+
+    /// What a run to its stop point answers, as `invoke_with_stop_point` does: the context at its
+    /// end, or its error.
+    pub fn finish_stopped(self) -> Result<InterceptorContext, InvokeError<Payload>>
+        ensures { (p : Payload) (stop : StopPoint) (before log : List Entry) (calls : ℕ) →
+            Progress p stop self before log calls →
+            ContextAnswered p stop calls result before log }
+    {
+        if self.lost {
+            return Err(InvokeError::OutOfMemory);
+        }
+        match self.point() {
+            Some(_) => Err(InvokeError::Unfinished),
+            None => stopped(self.into_standing().context),
+        }
     }
 
     /// The point whose question is next. Without one the run is whole.
