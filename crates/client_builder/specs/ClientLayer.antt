@@ -2,36 +2,14 @@
 use Rattle.std.specs.Prelude.{ℕ, zero, suc, Bool, true, false, List, [], ◌++◌, Option, None, Some, option_map, filter, is_some, nat_eq}
 use Rattle.std.specs.List.{flat_map}
 use Rattle.smithy_context.specs.Layer.{entry, merged, put_entry}
-use Rattle.smithy_context.specs.Setting.{key_of}
+use Rattle.smithy_context.specs.Setting.{key_of, place}
 use Rattle.smithy_context.specs.declared.layer.LayerEntry.{LayerEntry}
 use Rattle.smithy_context.specs.declared.setting.Setting.{Setting}
 use Rattle.smithy_context.specs.declared.setting.Setting.TheVariants as set
-use Rattle.smithy_context.specs.declared.setting.SettingKey.{SettingKey}
-use Rattle.smithy_context.specs.declared.setting.SettingKey.TheVariants as keys
 use Rattle.client_builder.specs.Plugins.{entries_of}
 use Rattle.client_builder.specs.declared.builder.OperationBuilder.{OperationBuilder}
 
 -- ---- the order of keys
-
--- a key's place in the order of settings: those of the caller's own come last
-abbrev pub place : SettingKey → ℕ
-place keys.Timeouts = 0
-place keys.Retry = 1
-place keys.Stall = 2
-place keys.LoadBody = 3
-place keys.Partition = 4
-place keys.Bucket = 5
-place keys.Prefix = 6
-place keys.Preference = 7
-place keys.V2 = 8
-place keys.EndpointParams = 9
-place keys.AuthParams = 10
-place keys.EnforceLength = 11
-place keys.Disable = 12
-place keys.Capture = 13
-place keys.Poisoned = 14
-place keys.Upload = 15
-place (keys.User name) = 16
 
 abbrev pub is_placed : ℕ → LayerEntry → Bool
 is_placed n e = nat_eq (place e.key) n

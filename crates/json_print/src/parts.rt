@@ -6,7 +6,7 @@ ghost use Rattle.json_print.specs.Written.{IsWritten};
 ghost use Rattle.json_values.specs.Values.{payload_data, headers_data, body_data, request_data};
 ghost use Rattle.json_values.specs.Values.{response_data, identity_data, endpoint_header_data};
 ghost use Rattle.json_values.specs.Values.{endpoint_data, error_kind_data, connector_data};
-ghost use Rattle.json_values.specs.Names.{hook_text};
+ghost use Rattle.smithy_types.specs.Hooks.{hook_text};
 ghost use Rattle.json_values.specs.Values.{fault_data, outcome_data};
 ghost use Rattle.serde_json.specs.Data.{string};
 
@@ -16,7 +16,7 @@ use crate::forms::{
     write_texts, write_word,
 };
 use http_header::HeaderMap;
-use json_values::names::{error_kind_name, hook_name};
+use json_values::names::error_kind_name;
 use smithy_types::{
     Body, ConnectorKind, Endpoint, EndpointHeader, ErrorKind, Fault, FaultKind, Headers, Hook,
     HttpRequest, HttpResponse, Identity, OutOfMemory, Outcome, Payload, Shared, Text,
@@ -278,7 +278,7 @@ fn write_fault_of_hook(hook: Hook, text: &Text, out: &mut Vec<u8>) -> Result<(),
         ∷ string text.now ∷ [])) out.old.items out.new.items) }
 {
     begin_tagged("Interceptor", out)?;
-    write_text(hook_name(hook), out)?;
+    write_text(hook.name(), out)?;
     out.push(b',')?;
     write_text(text.as_str(), out)?;
     out.push(b']')?;

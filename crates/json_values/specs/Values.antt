@@ -22,6 +22,7 @@ use Rattle.smithy_types.specs.declared.http.HttpResponse.{HttpResponse}
 use Rattle.smithy_types.specs.declared.identity.Endpoint.{Endpoint}
 use Rattle.smithy_types.specs.declared.identity.EndpointHeader.{EndpointHeader}
 use Rattle.smithy_types.specs.declared.identity.Identity.{Identity}
+use Rattle.smithy_context.specs.Setting.{key_name}
 use Rattle.smithy_context.specs.declared.intercept.Change.{Change}
 use Rattle.smithy_context.specs.declared.intercept.Change.TheVariants as changes
 use Rattle.smithy_context.specs.declared.intercept.HookAnswer.{HookAnswer}
@@ -49,7 +50,8 @@ use Rattle.run_grammar.specs.declared.answer.Answer.TheVariants as answers
 use Rattle.run_grammar.specs.declared.answer.Chosen.{Chosen}
 use Rattle.run_grammar.specs.declared.kind.Kind.{Kind}
 use Rattle.json_forms.specs.Prints.{row, num, null_or, texts, blob_data}
-use Rattle.json_values.specs.Names.{hook_text, kind_text, error_kind_text, mode_text, reconnect_text, version_text}
+use Rattle.smithy_types.specs.Hooks.{hook_text}
+use Rattle.json_values.specs.Names.{kind_text, error_kind_text, mode_text, reconnect_text, version_text}
 
 -- ---- payloads, requests and responses
 
@@ -152,24 +154,10 @@ value_data (settings.Poisoned value) = num value
 value_data settings.Upload = boolean true
 value_data (settings.User name value) = blob_data value
 
+-- the caller's own keys stand behind `user.`
 abbrev pub key_text : SettingKey → List ℕ
-key_text keys.Timeouts = codes "timeouts"
-key_text keys.Retry = codes "retry"
-key_text keys.Stall = codes "stall"
-key_text keys.LoadBody = codes "load_body"
-key_text keys.Partition = codes "partition"
-key_text keys.Bucket = codes "bucket"
-key_text keys.Prefix = codes "prefix"
-key_text keys.Preference = codes "preference"
-key_text keys.V2 = codes "v2"
-key_text keys.EndpointParams = codes "endpoint_params"
-key_text keys.AuthParams = codes "auth_params"
-key_text keys.EnforceLength = codes "enforce_length"
-key_text keys.Disable = codes "disable"
-key_text keys.Capture = codes "capture"
-key_text keys.Poisoned = codes "poisoned"
-key_text keys.Upload = codes "upload"
 key_text (keys.User name) = codes "user." ++ name
+key_text key = key_name key
 
 -- null is the mark Unset
 unfoldable pub layer_entry_data : LayerEntry → Data

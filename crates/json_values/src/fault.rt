@@ -14,7 +14,7 @@ ghost use Rattle.json_values.specs.Values.{outcome_data, change_data};
 use crate::http::{
     print_payload, print_request, print_response, read_payload, read_request, read_response,
 };
-use crate::names::{error_kind_name, error_kind_named, hook_name};
+use crate::names::{error_kind_name, error_kind_named};
 use json_forms::forms::{read_tagged, read_word, says, starts};
 use json_forms::{Json, ReadError, Value, read};
 use smithy_context::Change;
@@ -59,7 +59,7 @@ pub fn print_fault(alloc: Global, fault: &Fault) -> Result<Json, OutOfMemory>
     match &fault.kind {
         FaultKind::Interceptor(hook) => {
             let tag = Json::text(alloc, "Interceptor")?;
-            Json::triple(alloc, tag, Json::text(alloc, hook_name(*hook))?, text)
+            Json::triple(alloc, tag, Json::text(alloc, hook.name())?, text)
         }
         FaultKind::Operation(payload) => {
             let tag = Json::text(alloc, "Operation")?;

@@ -2,41 +2,13 @@
 ghost use Rattle.std.specs.Prelude.{◌≡◌, nat_eq};
 ghost use Rattle.std.specs.Cmp.Lexicographic.{pointwise};
 ghost use Rattle.json_forms.specs.Forms.{named};
-ghost use Rattle.json_values.specs.Names.{hook_text, kind_text, error_kind_text};
+ghost use Rattle.json_values.specs.Names.{kind_text, error_kind_text};
 ghost use Rattle.json_values.specs.Names.{stop_text, mode_text, reconnect_text, version_text};
 ghost use Rattle.json_values.specs.Names.{spec_versions, error_kinds, stop_points, retry_modes};
 ghost use Rattle.json_values.specs.Names.{reconnect_modes, all_kinds};
 
 use run_grammar::{Abandonable, ConfigureStage, Kind, Role};
 use smithy_types::{ErrorKind, Hook, ReconnectMode, RetryMode, RetrySpecVersion, StopPoint};
-
-/// A hook's name. The two of `read_before_execution` say whose interceptors they are.
-pub fn hook_name(hook: Hook) -> &'static str
-    ensures { result.now ≡ hook_text hook }
-{
-    match hook {
-        Hook::ReadBeforeExecutionClient => "read_before_execution client",
-        Hook::ReadBeforeExecutionOperation => "read_before_execution operation",
-        Hook::ModifyBeforeSerialization => "modify_before_serialization",
-        Hook::ReadBeforeSerialization => "read_before_serialization",
-        Hook::ReadAfterSerialization => "read_after_serialization",
-        Hook::ModifyBeforeRetryLoop => "modify_before_retry_loop",
-        Hook::ReadBeforeAttempt => "read_before_attempt",
-        Hook::ModifyBeforeSigning => "modify_before_signing",
-        Hook::ReadBeforeSigning => "read_before_signing",
-        Hook::ReadAfterSigning => "read_after_signing",
-        Hook::ModifyBeforeTransmit => "modify_before_transmit",
-        Hook::ReadBeforeTransmit => "read_before_transmit",
-        Hook::ReadAfterTransmit => "read_after_transmit",
-        Hook::ModifyBeforeDeserialization => "modify_before_deserialization",
-        Hook::ReadBeforeDeserialization => "read_before_deserialization",
-        Hook::ReadAfterDeserialization => "read_after_deserialization",
-        Hook::ModifyBeforeAttemptCompletion => "modify_before_attempt_completion",
-        Hook::ReadAfterAttempt => "read_after_attempt",
-        Hook::ModifyBeforeCompletion => "modify_before_completion",
-        Hook::ReadAfterExecution => "read_after_execution",
-    }
-}
 
 /// A kind of question, as it is printed: its name, behind what it is of where it has a part.
 pub fn kind_title(kind: Kind) -> &'static str

@@ -118,23 +118,8 @@ pub fn print_key(alloc: Global, key: &SettingKey) -> Result<Json, OutOfMemory>
     ensures { IfOk result (λ j. data_of j ≡ string (key_text key.now)) }
 {
     match key {
-        SettingKey::Timeouts => Json::text(alloc, "timeouts"),
-        SettingKey::Retry => Json::text(alloc, "retry"),
-        SettingKey::Stall => Json::text(alloc, "stall"),
-        SettingKey::LoadBody => Json::text(alloc, "load_body"),
-        SettingKey::Partition => Json::text(alloc, "partition"),
-        SettingKey::Bucket => Json::text(alloc, "bucket"),
-        SettingKey::Prefix => Json::text(alloc, "prefix"),
-        SettingKey::Preference => Json::text(alloc, "preference"),
-        SettingKey::V2 => Json::text(alloc, "v2"),
-        SettingKey::EndpointParams => Json::text(alloc, "endpoint_params"),
-        SettingKey::AuthParams => Json::text(alloc, "auth_params"),
-        SettingKey::EnforceLength => Json::text(alloc, "enforce_length"),
-        SettingKey::Disable => Json::text(alloc, "disable"),
-        SettingKey::Capture => Json::text(alloc, "capture"),
-        SettingKey::Poisoned => Json::text(alloc, "poisoned"),
-        SettingKey::Upload => Json::text(alloc, "upload"),
         SettingKey::User(name) => Json::joined(alloc, "user.", name.as_str()),
+        key => Json::text(alloc, key.name()),
     }
 }
 

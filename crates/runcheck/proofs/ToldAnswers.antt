@@ -20,7 +20,7 @@ use Rattle.smithy_types.specs.declared.fault.Outcome.TheVariants as outcomes
 use Rattle.smithy_types.specs.declared.hook.Hook.{Hook}
 use Rattle.smithy_types.specs.declared.hook.Hook.TheVariants as hooks
 use Rattle.json_values.specs.AnswerReadings.{answer_at, hook_answer_at, hooked_at, outcome_answer_at, streamed_at}
-use Rattle.json_values.specs.Names.{hook_text}
+use Rattle.smithy_types.specs.Hooks.{hook_text}
 use Rattle.json_values.specs.Readings.{change_at, failed_by, fault_at, outcome_at, plain_fault_at}
 use Rattle.json_values.specs.Spellable.{answer_spellable, change_spellable, fault_kind_spellable, hook_answer_spellable, layer_spellable, none_or, outcome_spellable}
 use Rattle.json_values.specs.Values.{answer_data, change_data, fault_data, fault_parts, hook_answer_data, outcome_data}

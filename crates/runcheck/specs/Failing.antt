@@ -16,7 +16,7 @@ use Rattle.json_forms.specs.Forms.{named, optional_at, tagged_at, word_at}
 use Rattle.json_forms.specs.Plain.{triple_at, quadruple_at}
 use Rattle.json_forms.specs.Reading.{◌>>=◌}
 use Rattle.json_values.specs.AnswerReadings.{answer_at}
-use Rattle.json_values.specs.Names.{all_hooks, hook_text}
+use Rattle.smithy_types.specs.Hooks.{all_hooks, hook_text}
 use Rattle.json_values.specs.Readings.{failed_by}
 use Rattle.json_values.specs.SettingReadings.{layer_at}
 

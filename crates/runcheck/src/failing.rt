@@ -3,7 +3,7 @@ ghost use Rattle.std.specs.Prelude.{◌≡◌};
 ghost use Rattle.json_forms.specs.Reading.{Reads};
 ghost use Rattle.json_forms.specs.Forms.{named};
 ghost use Rattle.json_forms.specs.View.{view};
-ghost use Rattle.json_values.specs.Names.{all_hooks, hook_text};
+ghost use Rattle.smithy_types.specs.Hooks.{all_hooks, hook_text};
 ghost use Rattle.runcheck.specs.Failing.{failing_answer_at, failing_hook_at, hook_at};
 ghost use Rattle.runcheck.specs.Failing.{hook_failure_at, hook_fault_at, hook_outcome_at};
 ghost use Rattle.runcheck.specs.Failing.{told_answer_at};
@@ -11,35 +11,11 @@ ghost use Rattle.runcheck.specs.Failing.{told_answer_at};
 use json_forms::forms::{read_optional_text, read_tagged, read_word};
 use json_forms::{ReadError, Value, read};
 use json_values::answer::read_answer;
-use json_values::names::hook_name;
 use json_values::setting::read_layer;
 use run_grammar::{Answer, Kind};
 use smithy_context::{Change, HookAnswer, HookReply};
 use smithy_types::{Fault, FaultKind, Hook, Outcome, Shared};
 use std::alloc::Global;
-
-const ALL_HOOKS: [Hook; 20] = [
-    Hook::ReadBeforeExecutionClient,
-    Hook::ReadBeforeExecutionOperation,
-    Hook::ModifyBeforeSerialization,
-    Hook::ReadBeforeSerialization,
-    Hook::ReadAfterSerialization,
-    Hook::ModifyBeforeRetryLoop,
-    Hook::ReadBeforeAttempt,
-    Hook::ModifyBeforeSigning,
-    Hook::ReadBeforeSigning,
-    Hook::ReadAfterSigning,
-    Hook::ModifyBeforeTransmit,
-    Hook::ReadBeforeTransmit,
-    Hook::ReadAfterTransmit,
-    Hook::ModifyBeforeDeserialization,
-    Hook::ReadBeforeDeserialization,
-    Hook::ReadAfterDeserialization,
-    Hook::ModifyBeforeAttemptCompletion,
-    Hook::ReadAfterAttempt,
-    Hook::ModifyBeforeCompletion,
-    Hook::ReadAfterExecution,
-];
 
 /// The answer to a question of this kind: one that a script may write, or one with a failure of
 /// a hook.
@@ -132,11 +108,11 @@ fn read_hook(value: &Value) -> Result<Hook, ReadError>
 fn hook_named(text: &str) -> Option<Hook>
     ensures { result ≡ named hook_text all_hooks text.now }
 {
-    first_hook(&ALL_HOOKS, text)
+    first_hook(&Hook::ALL, text)
 }
 
 fn first_hook(hooks: &[Hook], text: &str) -> Option<Hook>
     ensures { result ≡ named hook_text hooks.now text.now }
 {
-    hooks.iter().copied().find(|hook| text == hook_name(*hook))
+    hooks.iter().copied().find(|hook| text == hook.name())
 }

@@ -1,6 +1,6 @@
 //! One setting of a client or an operation.
 ghost use Rattle.std.specs.Prelude.{◌≡◌, IfOk};
-ghost use Rattle.smithy_context.specs.Setting.{key_of, same_key};
+ghost use Rattle.smithy_context.specs.Setting.{key_name, key_of, place, same_key};
 
 use smithy_types::{
     Blob, List, OutOfMemory, RetryConfig, RetryPartition, StalledStreamProtectionConfig, Text,
@@ -114,6 +114,61 @@ impl Setting {
 }
 
 impl SettingKey {
+    /// How many places there are in the order of settings.
+    pub const PLACES: u8 = 17;
+
+    /// The key's name in scripts and prints. A key of the caller's own is named `user` here, and
+    /// is told apart by its own name.
+    pub fn name(&self) -> &'static str
+        ensures { result.now ≡ key_name self.now }
+    {
+        match self {
+            SettingKey::Timeouts => "timeouts",
+            SettingKey::Retry => "retry",
+            SettingKey::Stall => "stall",
+            SettingKey::LoadBody => "load_body",
+            SettingKey::Partition => "partition",
+            SettingKey::Bucket => "bucket",
+            SettingKey::Prefix => "prefix",
+            SettingKey::Preference => "preference",
+            SettingKey::V2 => "v2",
+            SettingKey::EndpointParams => "endpoint_params",
+            SettingKey::AuthParams => "auth_params",
+            SettingKey::EnforceLength => "enforce_length",
+            SettingKey::Disable => "disable",
+            SettingKey::Capture => "capture",
+            SettingKey::Poisoned => "poisoned",
+            SettingKey::Upload => "upload",
+            SettingKey::User(_) => "user",
+        }
+    }
+
+    /// The key's place in the order of settings, from 0 on. Those of the caller's own come last,
+    /// and share one.
+    pub fn place(&self) -> u8
+        ensures { result ≡ place self.now }
+    {
+        match self {
+            SettingKey::Timeouts => 0,
+            SettingKey::Retry => 1,
+            SettingKey::Stall => 2,
+            SettingKey::LoadBody => 3,
+            SettingKey::Partition => 4,
+            SettingKey::Bucket => 5,
+            SettingKey::Prefix => 6,
+            SettingKey::Preference => 7,
+            SettingKey::V2 => 8,
+            SettingKey::EndpointParams => 9,
+            SettingKey::AuthParams => 10,
+            SettingKey::EnforceLength => 11,
+            SettingKey::Disable => 12,
+            SettingKey::Capture => 13,
+            SettingKey::Poisoned => 14,
+            SettingKey::Upload => 15,
+            SettingKey::User(_) => 16,
+        }
+    }
+
     /// Whether the two are one key.
     pub fn same(&self, other: &SettingKey) -> bool
         ensures { result ≡ same_key self.now other.now }

@@ -6,3 +6,4 @@ pub mod Reserved
 pub mod Config
 pub mod Content
 pub mod TextContent
+pub mod Hooks

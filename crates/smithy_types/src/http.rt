@@ -1,14 +1,16 @@
 //! Requests and responses, as the engine hands them on.
 ghost use Rattle.std.specs.Prelude.{◌≡◌, [], ◌==◌, length, IfOk, IfSome, IsSome, ◌↔◌, ◌≢◌};
 
+use crate::redacted::REDACTED;
 use crate::{Blob, OutOfMemory, Text};
-use http_header::HeaderMap;
+use http_header::{HeaderMap, HeaderName, HeaderValue};
 use std::alloc::{AllocError, Global};
 use std::fmt;
 use std::marker::Model;
 use std::sync::Arc;
 
-/// A header list that is shared and never changes: a copy costs the same however long it is.
+/// A header list that is shared and never changes: a copy costs the same however long it is. Its
+/// `Debug` doesn't show the values that are marked as sensitive.
 #[derive(Drop)]
 pub struct Headers {
     map: Option<Arc<HeaderMap>>,
@@ -70,11 +72,35 @@ impl Clone for Headers {
 
 impl fmt::Debug for Headers {
     fn fmt<W: fmt::Write>(&self, f: &mut fmt::Formatter<W>) -> fmt::Result {
-        match self.as_map() {
-            Some(map) => fmt::Debug::fmt(map, f),
-            None => write!(f, "{{}}"),
+        f.write_str("{")?;
+        if let Some(map) = self.as_map() {
+            show_headers(map, f)?;
         }
+        f.write_str("}")
     }
+}
+
+fn show_headers<W: fmt::Write>(map: &HeaderMap, f: &mut fmt::Formatter<W>) -> fmt::Result {
+    let mut is_later = false;
+    for (name, value) in map.iter() {
+        if is_later {
+            f.write_str(", ")?;
+        }
+        is_later = true;
+        show_header(name, value, f)?;
+    }
+    Ok(())
+}
+
+fn show_header<W: fmt::Write>(
+    name: &HeaderName,
+    value: &HeaderValue,
+    f: &mut fmt::Formatter<W>,
+) -> fmt::Result {
+    if value.is_sensitive() {
+        return write!(f, "{name:?}: {REDACTED}");
+    }
+    write!(f, "{name:?}: {value:?}")
 }
 
 /// The body of a request or a response.
@@ -100,8 +126,9 @@ impl Clone for Body {
     }
 }
 
-/// A request of HTTP.
-#[derive(Debug, Drop)]
+/// A request of HTTP. Its `Debug` shows neither the query, which may hold a key, nor the values of
+/// headers that are marked as sensitive.
+#[derive(Drop)]
 pub struct HttpRequest {
     /// The method, such as `GET`.
     pub method: Text,
@@ -123,6 +150,17 @@ impl Clone for HttpRequest {
             headers: self.headers.clone()?,
             body: self.body.clone()?,
         })
+    }
+}
+
+impl fmt::Debug for HttpRequest {
+    fn fmt<W: fmt::Write>(&self, f: &mut fmt::Formatter<W>) -> fmt::Result {
+        write!(f, "HttpRequest {{ method: {:?}, uri: ", self.method)?;
+        match self.uri.as_str().split_once('?') {
+            Some((target, _)) => write!(f, "\"{target}?{REDACTED}\"")?,
+            None => write!(f, "{:?}", self.uri)?,
+        }
+        write!(f, ", headers: {:?}, body: {:?} }}", self.headers, self.body)
     }
 }
 

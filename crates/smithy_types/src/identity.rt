@@ -1,13 +1,15 @@
 //! Who asks, and where the request goes.
 ghost use Rattle.std.specs.Prelude.{◌≡◌};
 
+use crate::redacted::REDACTED;
 use crate::{Blob, List, Text};
 use std::alloc::AllocError;
+use std::fmt;
 
-/// An identity that a request is signed with.
-#[derive(Debug, Drop)]
+/// An identity that a request is signed with. Its `Debug` doesn't show the content.
+#[derive(Drop)]
 pub struct Identity {
-    /// What the signer reads, such as a key or a token.
+    /// What the signer reads, such as a key or a token: a secret.
     pub content: Blob,
     /// The moment in nanoseconds since the epoch from which on it is no longer valid.
     pub expiration: Option<u64>,
@@ -21,6 +23,16 @@ impl Clone for Identity {
             content: self.content.clone()?,
             expiration: self.expiration,
         })
+    }
+}
+
+impl fmt::Debug for Identity {
+    fn fmt<W: fmt::Write>(&self, f: &mut fmt::Formatter<W>) -> fmt::Result {
+        let expiration = self.expiration;
+        write!(
+            f,
+            "Identity {{ content: {REDACTED}, expiration: {expiration:?} }}"
+        )
     }
 }
 

@@ -17,6 +17,7 @@ pub mod notes;
 pub mod partition;
 pub mod payload;
 pub mod provide_error_kind;
+mod redacted;
 pub mod reserved_list;
 pub mod shared;
 pub mod sums;
