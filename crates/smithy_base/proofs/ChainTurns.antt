@@ -2,7 +2,9 @@
 use Rattle.std.proofs.Common.{◌≡◌, ◌<◌, ◌+◌, ℕ, Option, None, Some, List, [], ◌∷◌, ◌++◌, length, take, drop, get_or, refl, sym, ap, subst, ◌∙◌, add-one, arith, drop-cons, length-set, append-nil, append_assoc, Bool, true, false, ◌⊎◌, inl, inr, Result, Ok, Err, OnOk, OnErr}
 use Rattle.std.proofs.Math.Seq.{take-suc}
 use Rattle.std.proofs.lemmas.List.{take-set, drop-set-lt, set-get_or, take-append-drop}
+use Rattle.std.proofs.lemmas.Bool.{or_parts}
 use Rattle.std.proofs.lemmas.Grind.{get_or-set_at}
+use Rattle.std.specs.List.{list_any}
 use Rattle.std.proofs.Math.ListN.{set}
 use Rattle.smithy_types.specs.declared.hook.Hook.{Hook}
 use Rattle.smithy_context.specs.declared.intercept.HookAnswer.{HookAnswer}
@@ -12,7 +14,7 @@ use Rattle.smithy_context.specs.Hooks.{allowed, seen_after}
 use Rattle.smithy_context.specs.Layer.{merged}
 use Rattle.smithy_context.specs.Settings.{or_else}
 use Rattle.smithy_base.specs.declared.walk.Walk.{Walk}
-use Rattle.smithy_base.specs.Chain.{last_of, all_merged, together, seen, is_run, Turn, Turns, RunsInPart}
+use Rattle.smithy_base.specs.Chain.{last_of, all_merged, together, seen, is_run, Turn, Turns, RunsChain, RunsInPart}
 use Rattle.smithy_base.specs.Walk.{answered_too, noted, all_noted}
 
 -- ---- what is answered together, with one more answer
@@ -54,6 +56,10 @@ walked-join h v l (a ∷ m) =
     let one : noted h (walked h v l) a ≡ walked h v (l ++ a ∷ []) =
     rw (seen-join h v l (a ∷ []), together-more h l a) refl in
     ap (λ w. all_noted h w m) one ∙ walked-join h v (l ++ a ∷ []) m ∙ ap (walked h v) (append_assoc l (a ∷ []) m)
+
+-- nothing was answered
+pub done_together : (h : Hook) (a : HookAnswer) → a.change ≡ None → a.settings ≡ [] → a.failure ≡ None → a ≡ together h []
+done_together h a c s f = λ i. record { change = c i; settings = s i; failure = f i }
 
 -- ---- the turns of a chain
 
@@ -100,6 +106,16 @@ module _ {I : Type 0} (names : I → List ℕ) (hooks : I → Hook → Bool) (ru
         walk = after ∙ ap (λ u. all_noted h u m) had.walk ∙ walked-join h v had.answers m;
         others = drop-set-lt (i + 1) chain i y (omega arith) ∙ tail;
       }
+
+  -- where none overrides the hook, none runs, and none changes
+  none_runs : (v : HookView) (xs : List I) → list_any (λ x. hooks x h) xs ≡ false → Turns names hooks runs h v xs [] xs
+  none_runs v [] e = (refl, refl)
+  none_runs v (x ∷ xs) e =
+      let parts = or_parts (hooks x h) (list_any (λ x. hooks x h) xs) e in
+      ([], [], x, xs, refl, refl, inl (rw parts.0 refl, refl, refl), none_runs v xs parts.1)
+
+  pub chain_unrun : (v : HookView) (xs : List I) (answer : HookAnswer) → list_any (λ x. hooks x h) xs ≡ false → answer ≡ together h [] → RunsChain names hooks runs h v xs answer xs
+  chain_unrun v xs answer e is = ([], none_runs v xs e, is)
 
   -- a run is a turn
   pub turned : (v : HookView) (x : I) (a : HookAnswer) (y : I) → is_run names hooks runs h v x ≡ true → runs x h v a y → Turn names hooks runs h v x (a ∷ []) y

@@ -1,6 +1,12 @@
-use Rattle.std.proofs.Common.{ap, get_or}
-use Rattle.smithy_base.proofs.ChainTurns.{one_turn, stopped_by}
+use Rattle.std.proofs.Common.{ap, get_or, sym, ◌∙◌}
+use Rattle.smithy_base.proofs.ChainTurns.{chain_unrun, done_together, one_turn, stopped_by}
 use Rattle.smithy_base.proofs.chain.run_each.Goals as goal
+
+pub returns-then-not-is_overridden-clause-ok : goal.returns-then-not-is_overridden-clause-ok
+returns-then-not-is_overridden-clause-ok g c =
+    chain_unrun g.I.Intercept.names g.I.Intercept.hooks g.I.Intercept.runs c.args.hook c.args.view.now c.args.chain.now c.done.result
+    (sym c.is_overridden.ensures ∙ c.if-not-is_overridden.true)
+    (done_together c.args.hook c.done.result c.done.ensures.change c.done.ensures.settings c.done.ensures.failure)
 
 pub returns-in_err-take_turn-clause-err : goal.returns-in_err-take_turn-clause-err
 returns-in_err-take_turn-clause-err g c =
