@@ -5,7 +5,9 @@ use Rattle.run_grammar.specs.declared.kind.Kind.{Kind}
 use Rattle.run_grammar.specs.declared.kind.Kind.TheVariants as kinds
 use Rattle.smithy_types.specs.declared.kinds.StopPoint.{StopPoint}
 use Rattle.orchestrate.specs.declared.point.Point.{Point}
-use Rattle.orchestrate.specs.declared.point.Point.TheVariants.{AtReadBeforeAttempt, AtChoose, AtEndpoint, AtApply, AtModifyBeforeSigning, AtReadBeforeSigning, AtSign, AtReadAfterSigning, AtModifyBeforeTransmit, AtReadBeforeTransmit, AtTransmit, AtReadAfterTransmit, AtModifyBeforeDeserialization, AtReadBeforeDeserialization, AtStream, AtBody, AtDeserialize, AtReadAfterDeserialization, AtCutModifyBeforeAttemptCompletion, AtConfigureClient, AtHookClient, AtConfigureOperation, AtHookOperation, AtConfigureFinal, AtStartOperationFailed, AtStartOperation, AtCutReadAfterAttempt, AtModifyBeforeCompletion, AtReadAfterExecution}
+use Rattle.orchestrate.specs.declared.point.Point.TheVariants.{AtChoose, AtEndpoint, AtApply, AtSign, AtTransmit, AtStream, AtBody, AtDeserialize, AtCutModifyBeforeAttemptCompletion, AtConfigureClient, AtConfigureOperation, AtConfigureFinal, AtStartOperationFailed, AtStartOperation, AtCutReadAfterAttempt}
+use Rattle.orchestrate.specs.declared.point.Point.TheVariants as points
+use Rattle.smithy_types.specs.declared.hook.Hook.TheVariants as hooks
 use Rattle.orchestrate.specs.declared.stage.Armed.{Armed}
 use Rattle.orchestrate.specs.declared.stage.Place.{Place}
 use Rattle.run_grammar.specs.declared.answer.Entry.{Entry}
@@ -43,38 +45,38 @@ asks_at p CutByAttempt = abandon_of (kind_at p)
 asks_at p CutByOperation = abandon_of (kind_at p)
 
 abbrev pub is_in_attempt : Point → Bool
-is_in_attempt AtReadBeforeAttempt = true
+is_in_attempt (points.Hook hooks.ReadBeforeAttempt) = true
 is_in_attempt AtChoose = true
 is_in_attempt AtEndpoint = true
 is_in_attempt AtApply = true
-is_in_attempt AtModifyBeforeSigning = true
-is_in_attempt AtReadBeforeSigning = true
+is_in_attempt (points.Hook hooks.ModifyBeforeSigning) = true
+is_in_attempt (points.Hook hooks.ReadBeforeSigning) = true
 is_in_attempt AtSign = true
-is_in_attempt AtReadAfterSigning = true
-is_in_attempt AtModifyBeforeTransmit = true
-is_in_attempt AtReadBeforeTransmit = true
+is_in_attempt (points.Hook hooks.ReadAfterSigning) = true
+is_in_attempt (points.Hook hooks.ModifyBeforeTransmit) = true
+is_in_attempt (points.Hook hooks.ReadBeforeTransmit) = true
 is_in_attempt AtTransmit = true
-is_in_attempt AtReadAfterTransmit = true
-is_in_attempt AtModifyBeforeDeserialization = true
-is_in_attempt AtReadBeforeDeserialization = true
+is_in_attempt (points.Hook hooks.ReadAfterTransmit) = true
+is_in_attempt (points.Hook hooks.ModifyBeforeDeserialization) = true
+is_in_attempt (points.Hook hooks.ReadBeforeDeserialization) = true
 is_in_attempt AtStream = true
 is_in_attempt AtBody = true
 is_in_attempt AtDeserialize = true
-is_in_attempt AtReadAfterDeserialization = true
+is_in_attempt (points.Hook hooks.ReadAfterDeserialization) = true
 is_in_attempt _ = false
 
 abbrev pub is_in_operation : Point → Bool
 is_in_operation AtConfigureClient = false
-is_in_operation AtHookClient = false
+is_in_operation (points.Hook hooks.ReadBeforeExecutionClient) = false
 is_in_operation AtConfigureOperation = false
-is_in_operation AtHookOperation = false
+is_in_operation (points.Hook hooks.ReadBeforeExecutionOperation) = false
 is_in_operation AtConfigureFinal = false
 is_in_operation AtStartOperationFailed = false
 is_in_operation AtStartOperation = false
 is_in_operation AtCutModifyBeforeAttemptCompletion = false
 is_in_operation AtCutReadAfterAttempt = false
-is_in_operation AtModifyBeforeCompletion = false
-is_in_operation AtReadAfterExecution = false
+is_in_operation (points.Hook hooks.ModifyBeforeCompletion) = false
+is_in_operation (points.Hook hooks.ReadAfterExecution) = false
 is_in_operation _ = true
 
 abbrev pub first_wait : Armed → Point → Waiting

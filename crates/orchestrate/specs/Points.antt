@@ -9,7 +9,9 @@ use Rattle.orchestrate.specs.declared.stage.Armed.{Armed}
 use Rattle.orchestrate.specs.declared.stage.Place.{Place}
 use Rattle.smithy_types.specs.declared.hook.Hook.TheVariants.{ModifyBeforeAttemptCompletion, ModifyBeforeCompletion, ModifyBeforeDeserialization, ModifyBeforeRetryLoop, ModifyBeforeSerialization, ModifyBeforeSigning, ModifyBeforeTransmit, ReadAfterAttempt, ReadAfterDeserialization, ReadAfterExecution, ReadAfterSerialization, ReadAfterSigning, ReadAfterTransmit, ReadBeforeAttempt, ReadBeforeDeserialization, ReadBeforeExecutionClient, ReadBeforeExecutionOperation, ReadBeforeSerialization, ReadBeforeSigning, ReadBeforeTransmit}
 use Rattle.run_grammar.specs.declared.kind.Kind.TheVariants as kinds
-use Rattle.orchestrate.specs.declared.point.Point.TheVariants.{AtApply, AtBody, AtChoose, AtConfigureClient, AtConfigureFinal, AtConfigureOperation, AtCutModifyBeforeAttemptCompletion, AtCutReadAfterAttempt, AtDecide, AtDeserialize, AtEndpoint, AtHookClient, AtHookOperation, AtInitial, AtLoad, AtModifyBeforeAttemptCompletion, AtModifyBeforeCompletion, AtModifyBeforeDeserialization, AtModifyBeforeRetryLoop, AtModifyBeforeSerialization, AtModifyBeforeSigning, AtModifyBeforeTransmit, AtReadAfterAttempt, AtReadAfterDeserialization, AtReadAfterExecution, AtReadAfterSerialization, AtReadAfterSigning, AtReadAfterTransmit, AtReadBeforeAttempt, AtReadBeforeDeserialization, AtReadBeforeSerialization, AtReadBeforeSigning, AtReadBeforeTransmit, AtSerialize, AtSign, AtStartAttempt, AtStartLongPoll, AtStartOperation, AtStartOperationFailed, AtStartRetry, AtStartSend, AtStream, AtTokenInitial, AtTokenStartSend, AtTokenWaitSend, AtTransmit, AtWaitLongPoll, AtWaitRetry, AtWaitSend}
+use Rattle.orchestrate.specs.declared.point.Point.TheVariants.{AtApply, AtBody, AtChoose, AtConfigureClient, AtConfigureFinal, AtConfigureOperation, AtCutModifyBeforeAttemptCompletion, AtCutReadAfterAttempt, AtDecide, AtDeserialize, AtEndpoint, AtInitial, AtLoad, AtSerialize, AtSign, AtStartAttempt, AtStartLongPoll, AtStartOperation, AtStartOperationFailed, AtStartRetry, AtStartSend, AtStream, AtTokenInitial, AtTokenStartSend, AtTokenWaitSend, AtTransmit, AtWaitLongPoll, AtWaitRetry, AtWaitSend}
+use Rattle.orchestrate.specs.declared.point.Point.TheVariants as points
+use Rattle.smithy_types.specs.declared.hook.Hook.TheVariants as hooks
 use Rattle.run_grammar.specs.declared.kind.Role.TheVariants.{Attempt, LongPoll, Operation, Retry, Send}
 use Rattle.run_grammar.specs.declared.kind.ConfigureStage.TheVariants as stages
 use Rattle.smithy_types.specs.declared.kinds.StopPoint.TheVariants as stops
@@ -22,42 +24,25 @@ use Rattle.run_grammar.specs.Machine.{Position, Whole, Asking}
 -- the question that is asked there
 abbrev pub kind_at : Point → Kind
 kind_at AtConfigureClient = kinds.Configure stages.Client
-kind_at AtHookClient = kinds.Hook ReadBeforeExecutionClient
+kind_at (points.Hook h) = kinds.Hook h
 kind_at AtConfigureOperation = kinds.Configure stages.Operation
-kind_at AtHookOperation = kinds.Hook ReadBeforeExecutionOperation
 kind_at AtConfigureFinal = kinds.Configure stages.Final
 kind_at AtStartOperationFailed = kinds.Start Operation
 kind_at AtStartOperation = kinds.Start Operation
-kind_at AtModifyBeforeSerialization = kinds.Hook ModifyBeforeSerialization
-kind_at AtReadBeforeSerialization = kinds.Hook ReadBeforeSerialization
 kind_at AtSerialize = kinds.Serialize
 kind_at AtLoad = kinds.Load
-kind_at AtReadAfterSerialization = kinds.Hook ReadAfterSerialization
-kind_at AtModifyBeforeRetryLoop = kinds.Hook ModifyBeforeRetryLoop
 kind_at AtInitial = kinds.Initial
 kind_at AtStartSend = kinds.Start Send
 kind_at AtWaitSend = kinds.Wait Send
 kind_at AtStartAttempt = kinds.Start Attempt
-kind_at AtReadBeforeAttempt = kinds.Hook ReadBeforeAttempt
 kind_at AtChoose = kinds.Choose
 kind_at AtEndpoint = kinds.Endpoint
 kind_at AtApply = kinds.Apply
-kind_at AtModifyBeforeSigning = kinds.Hook ModifyBeforeSigning
-kind_at AtReadBeforeSigning = kinds.Hook ReadBeforeSigning
 kind_at AtSign = kinds.Sign
-kind_at AtReadAfterSigning = kinds.Hook ReadAfterSigning
-kind_at AtModifyBeforeTransmit = kinds.Hook ModifyBeforeTransmit
-kind_at AtReadBeforeTransmit = kinds.Hook ReadBeforeTransmit
 kind_at AtTransmit = kinds.Transmit
-kind_at AtReadAfterTransmit = kinds.Hook ReadAfterTransmit
-kind_at AtModifyBeforeDeserialization = kinds.Hook ModifyBeforeDeserialization
-kind_at AtReadBeforeDeserialization = kinds.Hook ReadBeforeDeserialization
 kind_at AtStream = kinds.Stream
 kind_at AtBody = kinds.Body
 kind_at AtDeserialize = kinds.Deserialize
-kind_at AtReadAfterDeserialization = kinds.Hook ReadAfterDeserialization
-kind_at AtModifyBeforeAttemptCompletion = kinds.Hook ModifyBeforeAttemptCompletion
-kind_at AtReadAfterAttempt = kinds.Hook ReadAfterAttempt
 kind_at AtDecide = kinds.Decide
 kind_at AtStartRetry = kinds.Start Retry
 kind_at AtWaitRetry = kinds.Wait Retry
@@ -68,8 +53,6 @@ kind_at AtTokenStartSend = kinds.Start Send
 kind_at AtTokenWaitSend = kinds.Wait Send
 kind_at AtCutModifyBeforeAttemptCompletion = kinds.Hook ModifyBeforeAttemptCompletion
 kind_at AtCutReadAfterAttempt = kinds.Hook ReadAfterAttempt
-kind_at AtModifyBeforeCompletion = kinds.Hook ModifyBeforeCompletion
-kind_at AtReadAfterExecution = kinds.Hook ReadAfterExecution
 
 abbrev pub none_armed : Armed
 none_armed = record { operation = false; attempt = false }
@@ -140,42 +123,42 @@ hooked_second stop = hook ReadBeforeExecutionClient ⨟ Work (kinds.Configure st
 -- what is left after the question at the point
 abbrev pub left_at : StopPoint → Armed → Point → Production
 left_at stop m AtConfigureClient = configuring (hooked_second stop)
-left_at stop m AtHookClient = Nothing ⨟ Work (kinds.Configure stages.Operation) ⨟ Where tests.Failed Nothing (hooked_third stop)
+left_at stop m (points.Hook hooks.ReadBeforeExecutionClient) = Nothing ⨟ Work (kinds.Configure stages.Operation) ⨟ Where tests.Failed Nothing (hooked_third stop)
 left_at stop m AtConfigureOperation = configuring (hooked_third stop)
-left_at stop m AtHookOperation = Nothing ⨟ Work (kinds.Configure stages.Final) ⨟ Where tests.Failed Nothing (after_config stop)
+left_at stop m (points.Hook hooks.ReadBeforeExecutionOperation) = Nothing ⨟ Work (kinds.Configure stages.Final) ⨟ Where tests.Failed Nothing (after_config stop)
 left_at stop m AtConfigureFinal = configuring (after_config stop)
 left_at stop m AtStartOperationFailed = Nothing ⨟ finish
 left_at stop m AtStartOperation = (Nothing ⨟ Where (tests.HasStarted Operation) (Under Operation (op stop) settle) (op stop)) ⨟ finish
-left_at stop m AtModifyBeforeSerialization = in_front stop m (and_then (hook ReadBeforeSerialization ∷ Work kinds.Serialize ∷ Where tests.LoadBody (Work kinds.Load) Nothing ∷ hook ReadAfterSerialization ∷ hook ModifyBeforeRetryLoop ∷ []))
-left_at stop m AtReadBeforeSerialization = in_front stop m (and_then (Work kinds.Serialize ∷ Where tests.LoadBody (Work kinds.Load) Nothing ∷ hook ReadAfterSerialization ∷ hook ModifyBeforeRetryLoop ∷ []))
+left_at stop m (points.Hook hooks.ModifyBeforeSerialization) = in_front stop m (and_then (hook ReadBeforeSerialization ∷ Work kinds.Serialize ∷ Where tests.LoadBody (Work kinds.Load) Nothing ∷ hook ReadAfterSerialization ∷ hook ModifyBeforeRetryLoop ∷ []))
+left_at stop m (points.Hook hooks.ReadBeforeSerialization) = in_front stop m (and_then (Work kinds.Serialize ∷ Where tests.LoadBody (Work kinds.Load) Nothing ∷ hook ReadAfterSerialization ∷ hook ModifyBeforeRetryLoop ∷ []))
 left_at stop m AtSerialize = in_front stop m (and_then (Where tests.LoadBody (Work kinds.Load) Nothing ∷ hook ReadAfterSerialization ∷ hook ModifyBeforeRetryLoop ∷ []))
 left_at stop m AtLoad = in_front stop m (and_then (hook ReadAfterSerialization ∷ hook ModifyBeforeRetryLoop ∷ []))
-left_at stop m AtReadAfterSerialization = in_front stop m (and_then (hook ModifyBeforeRetryLoop ∷ []))
-left_at stop m AtModifyBeforeRetryLoop = in_front stop m Nothing
+left_at stop m (points.Hook hooks.ReadAfterSerialization) = in_front stop m (and_then (hook ModifyBeforeRetryLoop ∷ []))
+left_at stop m (points.Hook hooks.ModifyBeforeRetryLoop) = in_front stop m Nothing
 left_at stop m AtInitial = in_grant stop m (Nothing ⨟ Where tests.Delayed (Work (kinds.Start Send) ⨟ Where (tests.HasStarted Send) (Work (kinds.Wait Send) ⨟ Again) Nothing) Nothing)
 left_at stop m AtStartSend = in_grant stop m (Nothing ⨟ Where (tests.HasStarted Send) (Work (kinds.Wait Send) ⨟ Again) Nothing)
 left_at stop m AtWaitSend = in_grant stop m (Nothing ⨟ Again)
 left_at stop m AtStartAttempt = in_turn stop m ((Nothing ⨟ Where (tests.HasStarted Attempt) (Under Attempt (InAttempt (attempt stop)) Nothing) (InAttempt (attempt stop))) ⨟ settle ⨟ Work kinds.Decide)
-left_at stop m AtReadBeforeAttempt = in_opening stop m (and_then (Work kinds.Choose ∷ Where tests.EndpointStands Nothing (Work kinds.Endpoint) ∷ Work kinds.Apply ∷ hook ModifyBeforeSigning ∷ hook ReadBeforeSigning ∷ Work kinds.Sign ∷ hook ReadAfterSigning ∷ hook ModifyBeforeTransmit ∷ hook ReadBeforeTransmit ∷ []))
+left_at stop m (points.Hook hooks.ReadBeforeAttempt) = in_opening stop m (and_then (Work kinds.Choose ∷ Where tests.EndpointStands Nothing (Work kinds.Endpoint) ∷ Work kinds.Apply ∷ hook ModifyBeforeSigning ∷ hook ReadBeforeSigning ∷ Work kinds.Sign ∷ hook ReadAfterSigning ∷ hook ModifyBeforeTransmit ∷ hook ReadBeforeTransmit ∷ []))
 left_at stop m AtChoose = in_opening stop m (and_then (Where tests.EndpointStands Nothing (Work kinds.Endpoint) ∷ Work kinds.Apply ∷ hook ModifyBeforeSigning ∷ hook ReadBeforeSigning ∷ Work kinds.Sign ∷ hook ReadAfterSigning ∷ hook ModifyBeforeTransmit ∷ hook ReadBeforeTransmit ∷ []))
 left_at stop m AtEndpoint = in_opening stop m (and_then (Work kinds.Apply ∷ hook ModifyBeforeSigning ∷ hook ReadBeforeSigning ∷ Work kinds.Sign ∷ hook ReadAfterSigning ∷ hook ModifyBeforeTransmit ∷ hook ReadBeforeTransmit ∷ []))
 left_at stop m AtApply = in_opening stop m (and_then (hook ModifyBeforeSigning ∷ hook ReadBeforeSigning ∷ Work kinds.Sign ∷ hook ReadAfterSigning ∷ hook ModifyBeforeTransmit ∷ hook ReadBeforeTransmit ∷ []))
-left_at stop m AtModifyBeforeSigning = in_opening stop m (and_then (hook ReadBeforeSigning ∷ Work kinds.Sign ∷ hook ReadAfterSigning ∷ hook ModifyBeforeTransmit ∷ hook ReadBeforeTransmit ∷ []))
-left_at stop m AtReadBeforeSigning = in_opening stop m (and_then (Work kinds.Sign ∷ hook ReadAfterSigning ∷ hook ModifyBeforeTransmit ∷ hook ReadBeforeTransmit ∷ []))
+left_at stop m (points.Hook hooks.ModifyBeforeSigning) = in_opening stop m (and_then (hook ReadBeforeSigning ∷ Work kinds.Sign ∷ hook ReadAfterSigning ∷ hook ModifyBeforeTransmit ∷ hook ReadBeforeTransmit ∷ []))
+left_at stop m (points.Hook hooks.ReadBeforeSigning) = in_opening stop m (and_then (Work kinds.Sign ∷ hook ReadAfterSigning ∷ hook ModifyBeforeTransmit ∷ hook ReadBeforeTransmit ∷ []))
 left_at stop m AtSign = in_opening stop m (and_then (hook ReadAfterSigning ∷ hook ModifyBeforeTransmit ∷ hook ReadBeforeTransmit ∷ []))
-left_at stop m AtReadAfterSigning = in_opening stop m (and_then (hook ModifyBeforeTransmit ∷ hook ReadBeforeTransmit ∷ []))
-left_at stop m AtModifyBeforeTransmit = in_opening stop m (and_then (hook ReadBeforeTransmit ∷ []))
-left_at stop m AtReadBeforeTransmit = in_opening stop m Nothing
+left_at stop m (points.Hook hooks.ReadAfterSigning) = in_opening stop m (and_then (hook ModifyBeforeTransmit ∷ hook ReadBeforeTransmit ∷ []))
+left_at stop m (points.Hook hooks.ModifyBeforeTransmit) = in_opening stop m (and_then (hook ReadBeforeTransmit ∷ []))
+left_at stop m (points.Hook hooks.ReadBeforeTransmit) = in_opening stop m Nothing
 left_at stop m AtTransmit = in_sending stop m (and_then (hook ReadAfterTransmit ∷ hook ModifyBeforeDeserialization ∷ hook ReadBeforeDeserialization ∷ []))
-left_at stop m AtReadAfterTransmit = in_sending stop m (and_then (hook ModifyBeforeDeserialization ∷ hook ReadBeforeDeserialization ∷ []))
-left_at stop m AtModifyBeforeDeserialization = in_sending stop m (and_then (hook ReadBeforeDeserialization ∷ []))
-left_at stop m AtReadBeforeDeserialization = in_sending stop m Nothing
+left_at stop m (points.Hook hooks.ReadAfterTransmit) = in_sending stop m (and_then (hook ModifyBeforeDeserialization ∷ hook ReadBeforeDeserialization ∷ []))
+left_at stop m (points.Hook hooks.ModifyBeforeDeserialization) = in_sending stop m (and_then (hook ReadBeforeDeserialization ∷ []))
+left_at stop m (points.Hook hooks.ReadBeforeDeserialization) = in_sending stop m Nothing
 left_at stop m AtStream = in_try stop m (Nothing ⨟ Where tests.NotStreaming (Work kinds.Body ⨟ Where tests.BodyRead (Work kinds.Deserialize) Nothing) Nothing ⨟ hook ReadAfterDeserialization)
 left_at stop m AtBody = in_try stop m ((Nothing ⨟ Where tests.BodyRead (Work kinds.Deserialize) Nothing) ⨟ hook ReadAfterDeserialization)
 left_at stop m AtDeserialize = in_try stop m (Nothing ⨟ hook ReadAfterDeserialization)
-left_at stop m AtReadAfterDeserialization = in_try stop m Nothing
-left_at stop m AtModifyBeforeAttemptCompletion = in_turn stop m ((Nothing ⨟ hook ReadAfterAttempt) ⨟ Work kinds.Decide)
-left_at stop m AtReadAfterAttempt = in_turn stop m (Nothing ⨟ Work kinds.Decide)
+left_at stop m (points.Hook hooks.ReadAfterDeserialization) = in_try stop m Nothing
+left_at stop m (points.Hook hooks.ModifyBeforeAttemptCompletion) = in_turn stop m ((Nothing ⨟ hook ReadAfterAttempt) ⨟ Work kinds.Decide)
+left_at stop m (points.Hook hooks.ReadAfterAttempt) = in_turn stop m (Nothing ⨟ Work kinds.Decide)
 left_at stop m AtDecide = in_turn stop m Nothing
 left_at stop m AtStartRetry = in_round stop m (Nothing ⨟ Where (tests.HasStarted Retry) (Where tests.CheckpointStands (Work (kinds.Wait Retry) ⨟ again) Nothing) Nothing)
 left_at stop m AtWaitRetry = in_round stop m (Nothing ⨟ again)
@@ -186,8 +169,8 @@ left_at stop m AtTokenStartSend = in_token stop m (Nothing ⨟ Where (tests.HasS
 left_at stop m AtTokenWaitSend = in_token stop m (Nothing ⨟ Again)
 left_at stop m AtCutModifyBeforeAttemptCompletion = (Nothing ⨟ hook ReadAfterAttempt) ⨟ finish
 left_at stop m AtCutReadAfterAttempt = Nothing ⨟ finish
-left_at stop m AtModifyBeforeCompletion = Nothing ⨟ hook ReadAfterExecution
-left_at stop m AtReadAfterExecution = Nothing
+left_at stop m (points.Hook hooks.ModifyBeforeCompletion) = Nothing ⨟ hook ReadAfterExecution
+left_at stop m (points.Hook hooks.ReadAfterExecution) = Nothing
 
 -- whether a point lies in the operation's scope, and in the attempt's
 abbrev pub in_scope : Armed → List Role
@@ -202,34 +185,34 @@ attempt_scope m = cond m.attempt (Attempt ∷ operation_scope m) (operation_scop
 -- the deadlines that are armed at the point
 abbrev pub scope_at : Armed → Point → List Role
 scope_at m AtConfigureClient = []
-scope_at m AtHookClient = []
+scope_at m (points.Hook hooks.ReadBeforeExecutionClient) = []
 scope_at m AtConfigureOperation = []
-scope_at m AtHookOperation = []
+scope_at m (points.Hook hooks.ReadBeforeExecutionOperation) = []
 scope_at m AtConfigureFinal = []
 scope_at m AtStartOperationFailed = []
 scope_at m AtStartOperation = []
-scope_at m AtReadBeforeAttempt = attempt_scope m
+scope_at m (points.Hook hooks.ReadBeforeAttempt) = attempt_scope m
 scope_at m AtChoose = attempt_scope m
 scope_at m AtEndpoint = attempt_scope m
 scope_at m AtApply = attempt_scope m
-scope_at m AtModifyBeforeSigning = attempt_scope m
-scope_at m AtReadBeforeSigning = attempt_scope m
+scope_at m (points.Hook hooks.ModifyBeforeSigning) = attempt_scope m
+scope_at m (points.Hook hooks.ReadBeforeSigning) = attempt_scope m
 scope_at m AtSign = attempt_scope m
-scope_at m AtReadAfterSigning = attempt_scope m
-scope_at m AtModifyBeforeTransmit = attempt_scope m
-scope_at m AtReadBeforeTransmit = attempt_scope m
+scope_at m (points.Hook hooks.ReadAfterSigning) = attempt_scope m
+scope_at m (points.Hook hooks.ModifyBeforeTransmit) = attempt_scope m
+scope_at m (points.Hook hooks.ReadBeforeTransmit) = attempt_scope m
 scope_at m AtTransmit = attempt_scope m
-scope_at m AtReadAfterTransmit = attempt_scope m
-scope_at m AtModifyBeforeDeserialization = attempt_scope m
-scope_at m AtReadBeforeDeserialization = attempt_scope m
+scope_at m (points.Hook hooks.ReadAfterTransmit) = attempt_scope m
+scope_at m (points.Hook hooks.ModifyBeforeDeserialization) = attempt_scope m
+scope_at m (points.Hook hooks.ReadBeforeDeserialization) = attempt_scope m
 scope_at m AtStream = attempt_scope m
 scope_at m AtBody = attempt_scope m
 scope_at m AtDeserialize = attempt_scope m
-scope_at m AtReadAfterDeserialization = attempt_scope m
+scope_at m (points.Hook hooks.ReadAfterDeserialization) = attempt_scope m
 scope_at m AtCutModifyBeforeAttemptCompletion = []
 scope_at m AtCutReadAfterAttempt = []
-scope_at m AtModifyBeforeCompletion = []
-scope_at m AtReadAfterExecution = []
+scope_at m (points.Hook hooks.ModifyBeforeCompletion) = []
+scope_at m (points.Hook hooks.ReadAfterExecution) = []
 scope_at m _ = operation_scope m
 
 abbrev pub here : Armed → Point → Place
@@ -240,7 +223,7 @@ ended m = record { armed = m; point = None }
 
 -- the next point after an answer that is not Pending, where s stands after it
 abbrev pub begin_turn : Armed → State → Place
-begin_turn m s = cond (timeout_stands Attempt s) (here m AtStartAttempt) (here (record { operation = m.operation; attempt = false }) AtReadBeforeAttempt)
+begin_turn m s = cond (timeout_stands Attempt s) (here m AtStartAttempt) (here (record { operation = m.operation; attempt = false }) (points.Hook hooks.ReadBeforeAttempt))
 
 -- a further attempt begins, or asks for its token
 abbrev pub go_again : Armed → State → Place
@@ -250,57 +233,57 @@ abbrev pub unless_failed : State → Place → Place → Place
 unless_failed s p q = cond (failed s) p q
 
 abbrev pub finishing_at : Armed → Place
-finishing_at m = here m AtModifyBeforeCompletion
+finishing_at m = here m (points.Hook hooks.ModifyBeforeCompletion)
 
 abbrev pub settling_at : Armed → Place
-settling_at m = here m AtModifyBeforeAttemptCompletion
+settling_at m = here m (points.Hook hooks.ModifyBeforeAttemptCompletion)
 
 abbrev pub after_opened : StopPoint → State → Armed → Place
 after_opened stops.None s m = cond (failed s) (settling_at m) (here m AtTransmit)
 after_opened stops.BeforeTransmit s m = settling_at m
 
 abbrev pub next_point : StopPoint → Armed → Point → State → Place
-next_point stop m AtConfigureClient s = cond (failed s) (ended m) (here m AtHookClient)
-next_point stop m AtHookClient s = here m AtConfigureOperation
-next_point stop m AtConfigureOperation s = cond (failed s) (ended m) (here m AtHookOperation)
-next_point stop m AtHookOperation s = here m AtConfigureFinal
+next_point stop m AtConfigureClient s = cond (failed s) (ended m) (here m (points.Hook hooks.ReadBeforeExecutionClient))
+next_point stop m (points.Hook hooks.ReadBeforeExecutionClient) s = here m AtConfigureOperation
+next_point stop m AtConfigureOperation s = cond (failed s) (ended m) (here m (points.Hook hooks.ReadBeforeExecutionOperation))
+next_point stop m (points.Hook hooks.ReadBeforeExecutionOperation) s = here m AtConfigureFinal
 next_point stop m AtConfigureFinal s =
     cond (failed s) (ended m)
     (cond (failure_stands s)
     (cond (timeout_stands Operation s) (here m AtStartOperationFailed) (finishing_at m))
-    (cond (timeout_stands Operation s) (here m AtStartOperation) (here none_armed AtModifyBeforeSerialization)))
+    (cond (timeout_stands Operation s) (here m AtStartOperation) (here none_armed (points.Hook hooks.ModifyBeforeSerialization))))
 next_point stop m AtStartOperationFailed s = finishing_at m
-next_point stop m AtStartOperation s = here (record { operation = started Operation s; attempt = false }) AtModifyBeforeSerialization
-next_point stop m AtModifyBeforeSerialization s = cond (failed s) (finishing_at m) (here m AtReadBeforeSerialization)
-next_point stop m AtReadBeforeSerialization s = cond (failed s) (finishing_at m) (here m AtSerialize)
-next_point stop m AtSerialize s = cond (failed s) (finishing_at m) (cond (load_body s) (here m AtLoad) (here m AtReadAfterSerialization))
-next_point stop m AtLoad s = cond (failed s) (finishing_at m) (here m AtReadAfterSerialization)
-next_point stop m AtReadAfterSerialization s = cond (failed s) (finishing_at m) (here m AtModifyBeforeRetryLoop)
-next_point stop m AtModifyBeforeRetryLoop s = cond (failed s) (finishing_at m) (here m AtInitial)
+next_point stop m AtStartOperation s = here (record { operation = started Operation s; attempt = false }) (points.Hook hooks.ModifyBeforeSerialization)
+next_point stop m (points.Hook hooks.ModifyBeforeSerialization) s = cond (failed s) (finishing_at m) (here m (points.Hook hooks.ReadBeforeSerialization))
+next_point stop m (points.Hook hooks.ReadBeforeSerialization) s = cond (failed s) (finishing_at m) (here m AtSerialize)
+next_point stop m AtSerialize s = cond (failed s) (finishing_at m) (cond (load_body s) (here m AtLoad) (here m (points.Hook hooks.ReadAfterSerialization)))
+next_point stop m AtLoad s = cond (failed s) (finishing_at m) (here m (points.Hook hooks.ReadAfterSerialization))
+next_point stop m (points.Hook hooks.ReadAfterSerialization) s = cond (failed s) (finishing_at m) (here m (points.Hook hooks.ModifyBeforeRetryLoop))
+next_point stop m (points.Hook hooks.ModifyBeforeRetryLoop) s = cond (failed s) (finishing_at m) (here m AtInitial)
 next_point stop m AtInitial s = cond (delayed s) (here m AtStartSend) (cond (went s) (begin_turn m s) (finishing_at m))
 next_point stop m AtStartSend s = cond (started Send s) (here m AtWaitSend) (finishing_at m)
 next_point stop m AtWaitSend s = here m AtInitial
-next_point stop m AtStartAttempt s = here (record { operation = m.operation; attempt = started Attempt s }) AtReadBeforeAttempt
-next_point stop m AtReadBeforeAttempt s = cond (failed s) (settling_at m) (here m AtChoose)
+next_point stop m AtStartAttempt s = here (record { operation = m.operation; attempt = started Attempt s }) (points.Hook hooks.ReadBeforeAttempt)
+next_point stop m (points.Hook hooks.ReadBeforeAttempt) s = cond (failed s) (settling_at m) (here m AtChoose)
 next_point stop m AtChoose s = cond (failed s) (settling_at m) (cond (endpoint_stands s) (here m AtApply) (here m AtEndpoint))
 next_point stop m AtEndpoint s = cond (failed s) (settling_at m) (here m AtApply)
-next_point stop m AtApply s = cond (failed s) (settling_at m) (here m AtModifyBeforeSigning)
-next_point stop m AtModifyBeforeSigning s = cond (failed s) (settling_at m) (here m AtReadBeforeSigning)
-next_point stop m AtReadBeforeSigning s = cond (failed s) (settling_at m) (here m AtSign)
-next_point stop m AtSign s = cond (failed s) (settling_at m) (here m AtReadAfterSigning)
-next_point stop m AtReadAfterSigning s = cond (failed s) (settling_at m) (here m AtModifyBeforeTransmit)
-next_point stop m AtModifyBeforeTransmit s = cond (failed s) (settling_at m) (here m AtReadBeforeTransmit)
-next_point stop m AtReadBeforeTransmit s = after_opened stop s m
-next_point stop m AtTransmit s = cond (failed s) (settling_at m) (here m AtReadAfterTransmit)
-next_point stop m AtReadAfterTransmit s = cond (failed s) (settling_at m) (here m AtModifyBeforeDeserialization)
-next_point stop m AtModifyBeforeDeserialization s = cond (failed s) (settling_at m) (here m AtReadBeforeDeserialization)
-next_point stop m AtReadBeforeDeserialization s = cond (failed s) (settling_at m) (here m AtStream)
-next_point stop m AtStream s = cond (not_streaming s) (here m AtBody) (here m AtReadAfterDeserialization)
-next_point stop m AtBody s = cond (body_read s) (here m AtDeserialize) (here m AtReadAfterDeserialization)
-next_point stop m AtDeserialize s = here m AtReadAfterDeserialization
-next_point stop m AtReadAfterDeserialization s = settling_at m
-next_point stop m AtModifyBeforeAttemptCompletion s = here m AtReadAfterAttempt
-next_point stop m AtReadAfterAttempt s = here m AtDecide
+next_point stop m AtApply s = cond (failed s) (settling_at m) (here m (points.Hook hooks.ModifyBeforeSigning))
+next_point stop m (points.Hook hooks.ModifyBeforeSigning) s = cond (failed s) (settling_at m) (here m (points.Hook hooks.ReadBeforeSigning))
+next_point stop m (points.Hook hooks.ReadBeforeSigning) s = cond (failed s) (settling_at m) (here m AtSign)
+next_point stop m AtSign s = cond (failed s) (settling_at m) (here m (points.Hook hooks.ReadAfterSigning))
+next_point stop m (points.Hook hooks.ReadAfterSigning) s = cond (failed s) (settling_at m) (here m (points.Hook hooks.ModifyBeforeTransmit))
+next_point stop m (points.Hook hooks.ModifyBeforeTransmit) s = cond (failed s) (settling_at m) (here m (points.Hook hooks.ReadBeforeTransmit))
+next_point stop m (points.Hook hooks.ReadBeforeTransmit) s = after_opened stop s m
+next_point stop m AtTransmit s = cond (failed s) (settling_at m) (here m (points.Hook hooks.ReadAfterTransmit))
+next_point stop m (points.Hook hooks.ReadAfterTransmit) s = cond (failed s) (settling_at m) (here m (points.Hook hooks.ModifyBeforeDeserialization))
+next_point stop m (points.Hook hooks.ModifyBeforeDeserialization) s = cond (failed s) (settling_at m) (here m (points.Hook hooks.ReadBeforeDeserialization))
+next_point stop m (points.Hook hooks.ReadBeforeDeserialization) s = cond (failed s) (settling_at m) (here m AtStream)
+next_point stop m AtStream s = cond (not_streaming s) (here m AtBody) (here m (points.Hook hooks.ReadAfterDeserialization))
+next_point stop m AtBody s = cond (body_read s) (here m AtDeserialize) (here m (points.Hook hooks.ReadAfterDeserialization))
+next_point stop m AtDeserialize s = here m (points.Hook hooks.ReadAfterDeserialization)
+next_point stop m (points.Hook hooks.ReadAfterDeserialization) s = settling_at m
+next_point stop m (points.Hook hooks.ModifyBeforeAttemptCompletion) s = here m (points.Hook hooks.ReadAfterAttempt)
+next_point stop m (points.Hook hooks.ReadAfterAttempt) s = here m AtDecide
 next_point stop m AtDecide s =
     cond (decided_yes s) (cond (checkpoint_stands s) (go_again m s) (finishing_at m))
     (cond (decided_no_after s) (here m AtStartLongPoll) (cond (decided_delay s) (here m AtStartRetry) (finishing_at m)))
@@ -313,8 +296,8 @@ next_point stop m AtTokenStartSend s = cond (started Send s) (here m AtTokenWait
 next_point stop m AtTokenWaitSend s = here m AtTokenInitial
 next_point stop m AtCutModifyBeforeAttemptCompletion s = here m AtCutReadAfterAttempt
 next_point stop m AtCutReadAfterAttempt s = finishing_at m
-next_point stop m AtModifyBeforeCompletion s = here m AtReadAfterExecution
-next_point stop m AtReadAfterExecution s = ended m
+next_point stop m (points.Hook hooks.ModifyBeforeCompletion) s = here m (points.Hook hooks.ReadAfterExecution)
+next_point stop m (points.Hook hooks.ReadAfterExecution) s = ended m
 
 abbrev pub asking_at : StopPoint → Armed → Option Point → Position
 asking_at stop m None = Whole

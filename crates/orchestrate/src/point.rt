@@ -10,42 +10,26 @@ use smithy_types::Hook;
 #[derive(Clone, Copy, Debug, PartialEq, Eq)]
 pub enum Point {
     AtConfigureClient,
-    AtHookClient,
+    /// A hook, but for the two of an attempt that was cut.
+    Hook(Hook),
     AtConfigureOperation,
-    AtHookOperation,
     AtConfigureFinal,
     AtStartOperationFailed,
     AtStartOperation,
-    AtModifyBeforeSerialization,
-    AtReadBeforeSerialization,
     AtSerialize,
     AtLoad,
-    AtReadAfterSerialization,
-    AtModifyBeforeRetryLoop,
     AtInitial,
     AtStartSend,
     AtWaitSend,
     AtStartAttempt,
-    AtReadBeforeAttempt,
     AtChoose,
     AtEndpoint,
     AtApply,
-    AtModifyBeforeSigning,
-    AtReadBeforeSigning,
     AtSign,
-    AtReadAfterSigning,
-    AtModifyBeforeTransmit,
-    AtReadBeforeTransmit,
     AtTransmit,
-    AtReadAfterTransmit,
-    AtModifyBeforeDeserialization,
-    AtReadBeforeDeserialization,
     AtStream,
     AtBody,
     AtDeserialize,
-    AtReadAfterDeserialization,
-    AtModifyBeforeAttemptCompletion,
-    AtReadAfterAttempt,
     AtDecide,
     AtStartRetry,
     AtWaitRetry,
@@ -56,8 +40,6 @@ pub enum Point {
     AtTokenWaitSend,
     AtCutModifyBeforeAttemptCompletion,
     AtCutReadAfterAttempt,
-    AtModifyBeforeCompletion,
-    AtReadAfterExecution,
 }
 
 /// The kind of the question that is asked there.
@@ -66,42 +48,25 @@ pub fn kind_at(point: Point) -> Kind
 {
     match point {
         Point::AtConfigureClient => Kind::Configure(ConfigureStage::Client),
-        Point::AtHookClient => Kind::Hook(Hook::ReadBeforeExecutionClient),
+        Point::Hook(hook) => Kind::Hook(hook),
         Point::AtConfigureOperation => Kind::Configure(ConfigureStage::Operation),
-        Point::AtHookOperation => Kind::Hook(Hook::ReadBeforeExecutionOperation),
         Point::AtConfigureFinal => Kind::Configure(ConfigureStage::Final),
         Point::AtStartOperationFailed => Kind::Start(Role::Operation),
         Point::AtStartOperation => Kind::Start(Role::Operation),
-        Point::AtModifyBeforeSerialization => Kind::Hook(Hook::ModifyBeforeSerialization),
-        Point::AtReadBeforeSerialization => Kind::Hook(Hook::ReadBeforeSerialization),
         Point::AtSerialize => Kind::Serialize,
         Point::AtLoad => Kind::Load,
-        Point::AtReadAfterSerialization => Kind::Hook(Hook::ReadAfterSerialization),
-        Point::AtModifyBeforeRetryLoop => Kind::Hook(Hook::ModifyBeforeRetryLoop),
         Point::AtInitial => Kind::Initial,
         Point::AtStartSend => Kind::Start(Role::Send),
         Point::AtWaitSend => Kind::Wait(Role::Send),
         Point::AtStartAttempt => Kind::Start(Role::Attempt),
-        Point::AtReadBeforeAttempt => Kind::Hook(Hook::ReadBeforeAttempt),
         Point::AtChoose => Kind::Choose,
         Point::AtEndpoint => Kind::Endpoint,
         Point::AtApply => Kind::Apply,
-        Point::AtModifyBeforeSigning => Kind::Hook(Hook::ModifyBeforeSigning),
-        Point::AtReadBeforeSigning => Kind::Hook(Hook::ReadBeforeSigning),
         Point::AtSign => Kind::Sign,
-        Point::AtReadAfterSigning => Kind::Hook(Hook::ReadAfterSigning),
-        Point::AtModifyBeforeTransmit => Kind::Hook(Hook::ModifyBeforeTransmit),
-        Point::AtReadBeforeTransmit => Kind::Hook(Hook::ReadBeforeTransmit),
         Point::AtTransmit => Kind::Transmit,
-        Point::AtReadAfterTransmit => Kind::Hook(Hook::ReadAfterTransmit),
-        Point::AtModifyBeforeDeserialization => Kind::Hook(Hook::ModifyBeforeDeserialization),
-        Point::AtReadBeforeDeserialization => Kind::Hook(Hook::ReadBeforeDeserialization),
         Point::AtStream => Kind::Stream,
         Point::AtBody => Kind::Body,
         Point::AtDeserialize => Kind::Deserialize,
-        Point::AtReadAfterDeserialization => Kind::Hook(Hook::ReadAfterDeserialization),
-        Point::AtModifyBeforeAttemptCompletion => Kind::Hook(Hook::ModifyBeforeAttemptCompletion),
-        Point::AtReadAfterAttempt => Kind::Hook(Hook::ReadAfterAttempt),
         Point::AtDecide => Kind::Decide,
         Point::AtStartRetry => Kind::Start(Role::Retry),
         Point::AtWaitRetry => Kind::Wait(Role::Retry),
@@ -114,8 +79,6 @@ pub fn kind_at(point: Point) -> Kind
             Hook::ModifyBeforeAttemptCompletion,
         ),
         Point::AtCutReadAfterAttempt => Kind::Hook(Hook::ReadAfterAttempt),
-        Point::AtModifyBeforeCompletion => Kind::Hook(Hook::ModifyBeforeCompletion),
-        Point::AtReadAfterExecution => Kind::Hook(Hook::ReadAfterExecution),
     }
 }
 
@@ -124,24 +87,24 @@ pub fn is_in_attempt(point: Point) -> bool
     ensures { result ≡ is_in_attempt point }
 {
     match point {
-        Point::AtReadBeforeAttempt
+        Point::Hook(Hook::ReadBeforeAttempt)
         | Point::AtChoose
         | Point::AtEndpoint
         | Point::AtApply
-        | Point::AtModifyBeforeSigning
-        | Point::AtReadBeforeSigning
+        | Point::Hook(Hook::ModifyBeforeSigning)
+        | Point::Hook(Hook::ReadBeforeSigning)
         | Point::AtSign
-        | Point::AtReadAfterSigning
-        | Point::AtModifyBeforeTransmit
-        | Point::AtReadBeforeTransmit
+        | Point::Hook(Hook::ReadAfterSigning)
+        | Point::Hook(Hook::ModifyBeforeTransmit)
+        | Point::Hook(Hook::ReadBeforeTransmit)
         | Point::AtTransmit
-        | Point::AtReadAfterTransmit
-        | Point::AtModifyBeforeDeserialization
-        | Point::AtReadBeforeDeserialization
+        | Point::Hook(Hook::ReadAfterTransmit)
+        | Point::Hook(Hook::ModifyBeforeDeserialization)
+        | Point::Hook(Hook::ReadBeforeDeserialization)
         | Point::AtStream
         | Point::AtBody
         | Point::AtDeserialize
-        | Point::AtReadAfterDeserialization => true,
+        | Point::Hook(Hook::ReadAfterDeserialization) => true,
         _ => false,
     }
 }
@@ -152,16 +115,16 @@ pub fn is_in_operation(point: Point) -> bool
 {
     match point {
         Point::AtConfigureClient
-        | Point::AtHookClient
+        | Point::Hook(Hook::ReadBeforeExecutionClient)
         | Point::AtConfigureOperation
-        | Point::AtHookOperation
+        | Point::Hook(Hook::ReadBeforeExecutionOperation)
         | Point::AtConfigureFinal
         | Point::AtStartOperationFailed
         | Point::AtStartOperation
         | Point::AtCutModifyBeforeAttemptCompletion
         | Point::AtCutReadAfterAttempt
-        | Point::AtModifyBeforeCompletion
-        | Point::AtReadAfterExecution => false,
+        | Point::Hook(Hook::ModifyBeforeCompletion)
+        | Point::Hook(Hook::ReadAfterExecution) => false,
         _ => true,
     }
 }

@@ -11,6 +11,7 @@ use crate::point::{Point, is_in_attempt, is_in_operation, kind_at};
 use crate::reply::Reply;
 use crate::way::{here, next_point};
 use run_grammar::{Kind, Role, Standing, StopPoint};
+use smithy_types::Hook;
 
 /// Which deadlines are armed.
 #[derive(Clone, Copy, Debug, PartialEq, Eq)]
@@ -113,7 +114,7 @@ pub fn moved(
         }
         Waiting::ForPark => staged(here(armed, point), Waiting::NotWaiting),
         Waiting::CutByAttempt => {
-            let place = here(armed, Point::AtModifyBeforeAttemptCompletion);
+            let place = here(armed, Point::Hook(Hook::ModifyBeforeAttemptCompletion));
             staged(place, Waiting::NotWaiting)
         }
         Waiting::CutByOperation => staged(after_operation_cut(armed, point), Waiting::NotWaiting),
@@ -138,11 +139,11 @@ fn after_attempt_wait(armed: Armed, reply: Reply) -> Waiting
 fn after_operation_cut(armed: Armed, point: Point) -> Place
     ensures { result ≡ (if is_in_attempt point
         then here armed Point.AtCutModifyBeforeAttemptCompletion
-        else here armed Point.AtModifyBeforeCompletion) }
+        else here armed (Point.Hook Hook.ModifyBeforeCompletion)) }
 {
     if is_in_attempt(point) {
         here(armed, Point::AtCutModifyBeforeAttemptCompletion)
     } else {
-        here(armed, Point::AtModifyBeforeCompletion)
+        here(armed, Point::Hook(Hook::ModifyBeforeCompletion))
     }
 }

@@ -10,9 +10,10 @@ use crate::point::Point;
 use crate::reply::Reply;
 use crate::stage::{Armed, Place};
 use run_grammar::{Role, Standing, StopPoint};
+use smithy_types::Hook;
 
 /// Where the run goes on after an answer that isn't Pending; `standing` is what stands after it.
-/// The rows are in the order in which a run without a retry comes to them.
+/// The rows are in the order in which a run without a retry comes to them, but for the hooks.
 pub fn next_point(
     stop: StopPoint,
     armed: Armed,
@@ -24,63 +25,95 @@ pub fn next_point(
         result ≡ next_point stop armed point s }
 {
     match point {
-        Point::AtConfigureClient => or_end(armed, reply, Point::AtHookClient),
-        Point::AtHookClient => here(armed, Point::AtConfigureOperation),
-        Point::AtConfigureOperation => or_end(armed, reply, Point::AtHookOperation),
-        Point::AtHookOperation => here(armed, Point::AtConfigureFinal),
-        Point::AtConfigureFinal => after_configuration(armed, reply, standing),
-        Point::AtStartOperationFailed => here(armed, Point::AtModifyBeforeCompletion),
-        Point::AtStartOperation => after_start_operation(reply),
-        Point::AtModifyBeforeSerialization => or_finish(
+        Point::AtConfigureClient => or_end(
             armed,
             reply,
-            Point::AtReadBeforeSerialization,
+            Point::Hook(Hook::ReadBeforeExecutionClient),
         ),
-        Point::AtReadBeforeSerialization => or_finish(armed, reply, Point::AtSerialize),
+        Point::Hook(hook) => after_hook(stop, armed, hook, reply),
+        Point::AtConfigureOperation => or_end(
+            armed,
+            reply,
+            Point::Hook(Hook::ReadBeforeExecutionOperation),
+        ),
+        Point::AtConfigureFinal => after_configuration(armed, reply, standing),
+        Point::AtStartOperationFailed => here(armed, Point::Hook(Hook::ModifyBeforeCompletion)),
+        Point::AtStartOperation => after_start_operation(reply),
         Point::AtSerialize => after_serialize(armed, reply, standing),
-        Point::AtLoad => or_finish(armed, reply, Point::AtReadAfterSerialization),
-        Point::AtReadAfterSerialization => or_finish(armed, reply, Point::AtModifyBeforeRetryLoop),
-        Point::AtModifyBeforeRetryLoop => or_finish(armed, reply, Point::AtInitial),
+        Point::AtLoad => or_finish(armed, reply, Point::Hook(Hook::ReadAfterSerialization)),
         Point::AtInitial => after_initial(armed, reply, standing),
         Point::AtStartSend => after_start_send(armed, reply),
         Point::AtWaitSend => here(armed, Point::AtInitial),
         Point::AtStartAttempt => after_start_attempt(armed, reply),
-        Point::AtReadBeforeAttempt => or_settle(armed, reply, Point::AtChoose),
         Point::AtChoose => after_choose(armed, reply, standing),
         Point::AtEndpoint => or_settle(armed, reply, Point::AtApply),
-        Point::AtApply => or_settle(armed, reply, Point::AtModifyBeforeSigning),
-        Point::AtModifyBeforeSigning => or_settle(armed, reply, Point::AtReadBeforeSigning),
-        Point::AtReadBeforeSigning => or_settle(armed, reply, Point::AtSign),
-        Point::AtSign => or_settle(armed, reply, Point::AtReadAfterSigning),
-        Point::AtReadAfterSigning => or_settle(armed, reply, Point::AtModifyBeforeTransmit),
-        Point::AtModifyBeforeTransmit => or_settle(armed, reply, Point::AtReadBeforeTransmit),
-        Point::AtReadBeforeTransmit => after_opening(stop, armed, reply),
-        Point::AtTransmit => or_settle(armed, reply, Point::AtReadAfterTransmit),
-        Point::AtReadAfterTransmit => or_settle(armed, reply, Point::AtModifyBeforeDeserialization),
-        Point::AtModifyBeforeDeserialization => or_settle(
-            armed,
-            reply,
-            Point::AtReadBeforeDeserialization,
-        ),
-        Point::AtReadBeforeDeserialization => or_settle(armed, reply, Point::AtStream),
+        Point::AtApply => or_settle(armed, reply, Point::Hook(Hook::ModifyBeforeSigning)),
+        Point::AtSign => or_settle(armed, reply, Point::Hook(Hook::ReadAfterSigning)),
+        Point::AtTransmit => or_settle(armed, reply, Point::Hook(Hook::ReadAfterTransmit)),
         Point::AtStream => after_stream(armed, reply),
         Point::AtBody => after_body(armed, reply),
-        Point::AtDeserialize => here(armed, Point::AtReadAfterDeserialization),
-        Point::AtReadAfterDeserialization => here(armed, Point::AtModifyBeforeAttemptCompletion),
-        Point::AtModifyBeforeAttemptCompletion => here(armed, Point::AtReadAfterAttempt),
-        Point::AtReadAfterAttempt => here(armed, Point::AtDecide),
+        Point::AtDeserialize => here(armed, Point::Hook(Hook::ReadAfterDeserialization)),
         Point::AtDecide => after_decision(armed, reply, standing),
         Point::AtStartRetry => after_start_retry(armed, reply, standing),
         Point::AtWaitRetry => go_again(armed, standing),
         Point::AtStartLongPoll => after_start_long_poll(armed, reply),
-        Point::AtWaitLongPoll => here(armed, Point::AtModifyBeforeCompletion),
+        Point::AtWaitLongPoll => here(armed, Point::Hook(Hook::ModifyBeforeCompletion)),
         Point::AtTokenInitial => after_token(armed, reply, standing),
         Point::AtTokenStartSend => after_token_start_send(armed, reply),
         Point::AtTokenWaitSend => here(armed, Point::AtTokenInitial),
         Point::AtCutModifyBeforeAttemptCompletion => here(armed, Point::AtCutReadAfterAttempt),
-        Point::AtCutReadAfterAttempt => here(armed, Point::AtModifyBeforeCompletion),
-        Point::AtModifyBeforeCompletion => here(armed, Point::AtReadAfterExecution),
-        Point::AtReadAfterExecution => Place { armed, point: None },
+        Point::AtCutReadAfterAttempt => here(armed, Point::Hook(Hook::ModifyBeforeCompletion)),
+    }
+}
+
+// Where the run goes on after a hook, in the order in which a run without a retry comes to them.
+fn after_hook(stop: StopPoint, armed: Armed, hook: Hook, reply: Reply) -> Place
+    ensures { (s : State) → Tells s reply → result ≡ next_point stop armed (Point.Hook hook) s }
+{
+    match hook {
+        Hook::ReadBeforeExecutionClient => here(armed, Point::AtConfigureOperation),
+        Hook::ReadBeforeExecutionOperation => here(armed, Point::AtConfigureFinal),
+        Hook::ModifyBeforeSerialization => or_finish(
+            armed,
+            reply,
+            Point::Hook(Hook::ReadBeforeSerialization),
+        ),
+        Hook::ReadBeforeSerialization => or_finish(armed, reply, Point::AtSerialize),
+        Hook::ReadAfterSerialization => or_finish(
+            armed,
+            reply,
+            Point::Hook(Hook::ModifyBeforeRetryLoop),
+        ),
+        Hook::ModifyBeforeRetryLoop => or_finish(armed, reply, Point::AtInitial),
+        Hook::ReadBeforeAttempt => or_settle(armed, reply, Point::AtChoose),
+        Hook::ModifyBeforeSigning => or_settle(armed, reply, Point::Hook(Hook::ReadBeforeSigning)),
+        Hook::ReadBeforeSigning => or_settle(armed, reply, Point::AtSign),
+        Hook::ReadAfterSigning => or_settle(armed, reply, Point::Hook(Hook::ModifyBeforeTransmit)),
+        Hook::ModifyBeforeTransmit => or_settle(
+            armed,
+            reply,
+            Point::Hook(Hook::ReadBeforeTransmit),
+        ),
+        Hook::ReadBeforeTransmit => after_opening(stop, armed, reply),
+        Hook::ReadAfterTransmit => or_settle(
+            armed,
+            reply,
+            Point::Hook(Hook::ModifyBeforeDeserialization),
+        ),
+        Hook::ModifyBeforeDeserialization => or_settle(
+            armed,
+            reply,
+            Point::Hook(Hook::ReadBeforeDeserialization),
+        ),
+        Hook::ReadBeforeDeserialization => or_settle(armed, reply, Point::AtStream),
+        Hook::ReadAfterDeserialization => here(
+            armed,
+            Point::Hook(Hook::ModifyBeforeAttemptCompletion),
+        ),
+        Hook::ModifyBeforeAttemptCompletion => here(armed, Point::Hook(Hook::ReadAfterAttempt)),
+        Hook::ReadAfterAttempt => here(armed, Point::AtDecide),
+        Hook::ModifyBeforeCompletion => here(armed, Point::Hook(Hook::ReadAfterExecution)),
+        Hook::ReadAfterExecution => Place { armed, point: None },
     }
 }
 
@@ -97,7 +130,7 @@ fn after_configuration(armed: Armed, reply: Reply, standing: &Standing) -> Place
         if has_deadline {
             here(armed, Point::AtStartOperationFailed)
         } else {
-            here(armed, Point::AtModifyBeforeCompletion)
+            here(armed, Point::Hook(Hook::ModifyBeforeCompletion))
         }
     } else if has_deadline {
         here(armed, Point::AtStartOperation)
@@ -107,7 +140,7 @@ fn after_configuration(armed: Armed, reply: Reply, standing: &Standing) -> Place
                 operation: false,
                 attempt: false,
             },
-            Point::AtModifyBeforeSerialization,
+            Point::Hook(Hook::ModifyBeforeSerialization),
         )
     }
 }
@@ -121,7 +154,7 @@ fn after_initial(armed: Armed, reply: Reply, standing: &Standing) -> Place
     } else if reply.granted {
         begin_turn(armed, standing)
     } else {
-        here(armed, Point::AtModifyBeforeCompletion)
+        here(armed, Point::Hook(Hook::ModifyBeforeCompletion))
     }
 }
 
@@ -130,7 +163,7 @@ fn after_opening(stop: StopPoint, armed: Armed, reply: Reply) -> Place
 {
     match stop {
         StopPoint::None => or_settle(armed, reply, Point::AtTransmit),
-        StopPoint::BeforeTransmit => here(armed, Point::AtModifyBeforeAttemptCompletion),
+        StopPoint::BeforeTransmit => here(armed, Point::Hook(Hook::ModifyBeforeAttemptCompletion)),
     }
 }
 
@@ -143,14 +176,14 @@ fn after_decision(armed: Armed, reply: Reply, standing: &Standing) -> Place
         if standing.context.checkpoint.is_some() {
             go_again(armed, standing)
         } else {
-            here(armed, Point::AtModifyBeforeCompletion)
+            here(armed, Point::Hook(Hook::ModifyBeforeCompletion))
         }
     } else if reply.pauses {
         here(armed, Point::AtStartLongPoll)
     } else if reply.again_later {
         here(armed, Point::AtStartRetry)
     } else {
-        here(armed, Point::AtModifyBeforeCompletion)
+        here(armed, Point::Hook(Hook::ModifyBeforeCompletion))
     }
 }
 
@@ -182,7 +215,7 @@ fn or_finish(armed: Armed, reply: Reply, next: Point) -> Place
         result ≡ cond (failed s) (finishing_at armed) (here armed next) }
 {
     if reply.failed {
-        here(armed, Point::AtModifyBeforeCompletion)
+        here(armed, Point::Hook(Hook::ModifyBeforeCompletion))
     } else {
         here(armed, next)
     }
@@ -194,7 +227,7 @@ fn or_settle(armed: Armed, reply: Reply, next: Point) -> Place
         result ≡ cond (failed s) (settling_at armed) (here armed next) }
 {
     if reply.failed {
-        here(armed, Point::AtModifyBeforeAttemptCompletion)
+        here(armed, Point::Hook(Hook::ModifyBeforeAttemptCompletion))
     } else {
         here(armed, next)
     }
@@ -212,7 +245,7 @@ fn begin_turn(armed: Armed, standing: &Standing) -> Place
                 operation: armed.operation,
                 attempt: false,
             },
-            Point::AtReadBeforeAttempt,
+            Point::Hook(Hook::ReadBeforeAttempt),
         )
     }
 }
@@ -238,7 +271,7 @@ fn after_start_operation(reply: Reply) -> Place
             operation: reply.has_started(Role::Operation),
             attempt: false,
         },
-        Point::AtModifyBeforeSerialization,
+        Point::Hook(Hook::ModifyBeforeSerialization),
     )
 }
 
@@ -250,7 +283,7 @@ fn after_serialize(armed: Armed, reply: Reply, standing: &Standing) -> Place
     if standing.loads_body() {
         or_finish(armed, reply, Point::AtLoad)
     } else {
-        or_finish(armed, reply, Point::AtReadAfterSerialization)
+        or_finish(armed, reply, Point::Hook(Hook::ReadAfterSerialization))
     }
 }
 
@@ -261,7 +294,7 @@ fn after_start_send(armed: Armed, reply: Reply) -> Place
     if reply.has_started(Role::Send) {
         here(armed, Point::AtWaitSend)
     } else {
-        here(armed, Point::AtModifyBeforeCompletion)
+        here(armed, Point::Hook(Hook::ModifyBeforeCompletion))
     }
 }
 
@@ -274,7 +307,7 @@ fn after_start_attempt(armed: Armed, reply: Reply) -> Place
             operation: armed.operation,
             attempt: reply.has_started(Role::Attempt),
         },
-        Point::AtReadBeforeAttempt,
+        Point::Hook(Hook::ReadBeforeAttempt),
     )
 }
 
@@ -297,7 +330,7 @@ fn after_stream(armed: Armed, reply: Reply) -> Place
     if reply.not_streaming {
         here(armed, Point::AtBody)
     } else {
-        here(armed, Point::AtReadAfterDeserialization)
+        here(armed, Point::Hook(Hook::ReadAfterDeserialization))
     }
 }
 
@@ -308,7 +341,7 @@ fn after_body(armed: Armed, reply: Reply) -> Place
     if reply.read {
         here(armed, Point::AtDeserialize)
     } else {
-        here(armed, Point::AtReadAfterDeserialization)
+        here(armed, Point::Hook(Hook::ReadAfterDeserialization))
     }
 }
 
@@ -320,7 +353,7 @@ fn after_start_retry(armed: Armed, reply: Reply, standing: &Standing) -> Place
     if reply.has_started(Role::Retry) && standing.context.checkpoint.is_some() {
         here(armed, Point::AtWaitRetry)
     } else {
-        here(armed, Point::AtModifyBeforeCompletion)
+        here(armed, Point::Hook(Hook::ModifyBeforeCompletion))
     }
 }
 
@@ -331,7 +364,7 @@ fn after_start_long_poll(armed: Armed, reply: Reply) -> Place
     if reply.has_started(Role::LongPoll) {
         here(armed, Point::AtWaitLongPoll)
     } else {
-        here(armed, Point::AtModifyBeforeCompletion)
+        here(armed, Point::Hook(Hook::ModifyBeforeCompletion))
     }
 }
 
@@ -344,7 +377,7 @@ fn after_token(armed: Armed, reply: Reply, standing: &Standing) -> Place
     } else if reply.goes_on {
         begin_turn(armed, standing)
     } else {
-        here(armed, Point::AtModifyBeforeCompletion)
+        here(armed, Point::Hook(Hook::ModifyBeforeCompletion))
     }
 }
 
@@ -355,6 +388,6 @@ fn after_token_start_send(armed: Armed, reply: Reply) -> Place
     if reply.has_started(Role::Send) {
         here(armed, Point::AtTokenWaitSend)
     } else {
-        here(armed, Point::AtModifyBeforeCompletion)
+        here(armed, Point::Hook(Hook::ModifyBeforeCompletion))
     }
 }

@@ -43,3 +43,6 @@ returns-in-AtTokenInitial c = λ s h t. c.after_token.ensures c.args.stop s h t 
 
 pub returns-in-AtTokenStartSend : goal.returns-in-AtTokenStartSend
 returns-in-AtTokenStartSend c = λ s h t. c.after_token_start_send.ensures c.args.stop s t ∙ ap (λ p. next_point c.args.stop c.args.armed p s) (sym c.in-AtTokenStartSend.is)
+
+pub returns-in-Hook : goal.returns-in-Hook
+returns-in-Hook c = λ s h t. c.after_hook.ensures s t ∙ ap (λ p. next_point c.args.stop c.args.armed p s) (sym c.in-Hook.is)
