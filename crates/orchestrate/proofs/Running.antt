@@ -46,6 +46,11 @@ ran_unfinished p stop fuel v o before log h q = (
   λ i. not_whole (start p) q.list v o h q.stands (subst (λ t. IsWhole t (start p) q.list) (sym q.same) i),
 )
 
+-- where memory runs out with nothing asked for it, the calls so far begin a run
+pub progress_lost : (p : Payload) (stop : StopPoint) (fuel : ℕ) (v : Invocation) (before log : List Entry) (n : ℕ) → n ≤ fuel → Progress p stop v before log n → RunLost p stop fuel before log
+progress_lost p stop fuel v before log n le q =
+    (q.list, q.grown, omega (arith, q.counted), inl (subst (λ t. Begins t (start p) q.list) q.same (stands_begins_run (start p) q.list v q.stands)))
+
 lost_by : (p : Payload) (stop : StopPoint) (fuel : ℕ) (before log more m : List Entry) (n : ℕ) → n + 1 ≤ fuel → log ≡ before ++ m → length m ≡ n → Begins stop (start p) m →
     LostAt stop (start p) m log more → RunLost p stop fuel before more
 lost_by p stop fuel before log more m n le e c b (inl h) = (m, h ∙ e, omega (arith, c), inl b)

@@ -61,9 +61,10 @@ impl Invocation {
         ensures fresh { IfOk result (λ v. v ≡ fresh input stop) }
         ensures stands { IfOk result (λ v. Stands (start input) [] v) }
     {
+        let standing = Standing::new(alloc, input)?;
         Ok(Invocation {
             stop,
-            standing: Standing::new(alloc, input)?,
+            standing,
             stage: Stage {
                 place: Place {
                     armed: Armed {

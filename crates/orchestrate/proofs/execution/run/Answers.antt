@@ -1,13 +1,24 @@
-use Rattle.std.proofs.Common.{Ok, Err, Some, ap, sym, ◌∙◌, subst, arith, ◌+◌, ◌≡◌, ◌≤◌}
+use Rattle.std.proofs.Common.{Ok, Err, Some, refl, ap, sym, ◌∙◌, subst, arith, ◌+◌, ◌≡◌, ◌≤◌}
 use Rattle.std.specs.Prelude.{OnErr}
 use Rattle.orchestrate.specs.Stands.{Drove, Progress, Ran, RunLost}
 use Rattle.orchestrate.proofs.HandingLemmas.{handed_nothing, handed_more}
-use Rattle.orchestrate.proofs.Running.{progress_start, progress_more, ran_whole, ran_unfinished, run_lost}
+use Rattle.orchestrate.specs.Fresh.{fresh}
+use Rattle.orchestrate.proofs.Standings.{start_stands}
+use Rattle.orchestrate.proofs.Running.{progress_lost, progress_start, progress_more, ran_whole, ran_unfinished, run_lost}
 use Rattle.orchestrate.proofs.execution.run.Goals as goal
+
+pub returns-in_err-invocation-clause-lost : goal.returns-in_err-invocation-clause-lost
+returns-in_err-invocation-clause-lost g c =
+    let v = fresh c.args.input c.args.stop in
+    let calls = g.W.World.calls c.args.world.now in
+    elim c.from_residual.result as (λ r. OnErr r (RunLost c.args.input c.args.stop c.args.fuel calls calls)) [
+      | Ok x ↦ tt
+      | Err x ↦ progress_lost c.args.input c.args.stop c.args.fuel v calls calls 0 (omega arith) (progress_start c.args.input c.args.stop v calls refl (start_stands c.args.input c.args.stop))
+    ]
 
 pub loop-init : goal.loop-init
 loop-init g c = (
-  progress_start c.args.input c.args.stop c.start-invocation.result (g.W.World.calls c.args.world.now) (ap (λ v. v.stop) c.start-invocation.ensures.fresh) c.start-invocation.ensures.stands,
+  progress_start c.args.input c.args.stop c.in_ok-invocation.invocation (g.W.World.calls c.args.world.now) (ap (λ v. v.stop) c.in_ok-invocation.ensures.fresh) c.in_ok-invocation.ensures.stands,
   handed_nothing g.W.World.relates c.args.world.now (g.W.World.calls c.args.world.now),
 )
 
@@ -23,7 +34,7 @@ loop-preserved g c = (
 pub returns-in_err-drive-clause-lost : goal.returns-in_err-drive-clause-lost
 returns-in_err-drive-clause-lost g c =
     let le : c.loop.counter + 1 ≤ c.args.fuel = omega arith in
-    elim c.from_residual.result as (λ r. OnErr r (RunLost c.args.input c.args.stop c.args.fuel (g.W.World.calls c.args.world.now) (g.W.World.calls c.drive.new.world))) [
+    elim c.from_residual-in_err-drive.result as (λ r. OnErr r (RunLost c.args.input c.args.stop c.args.fuel (g.W.World.calls c.args.world.now) (g.W.World.calls c.drive.new.world))) [
       | Ok x ↦ tt
       | Err x ↦ run_lost c.args.input c.args.stop c.args.fuel c.loop.invocation c.drive.new.self (g.W.World.calls c.args.world.now) (g.W.World.calls c.loop.world)
           (g.W.World.calls c.drive.new.world) c.loop.counter le c.loop.invariant.0 c.in_err-drive.ensures.lost

@@ -8,4 +8,4 @@ use Rattle.orchestrate.proofs.invocation.Invocation.start.Goals as goal
 
 pub returns-clause-stands : goal.returns-clause-stands
 returns-clause-stands c =
-    subst (λ d. let x : Invocation = record (fresh c.args.input c.args.stop) { standing = d } in Stands (start c.args.input) [] x) (sym c.new.ensures) (start_stands c.args.input c.args.stop)
+    subst (λ d. let x : Invocation = record (fresh c.args.input c.args.stop) { standing = d } in Stands (start c.args.input) [] x) (sym c.in_ok-standing.ensures) (start_stands c.args.input c.args.stop)

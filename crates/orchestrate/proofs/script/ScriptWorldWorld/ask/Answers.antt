@@ -14,7 +14,7 @@ same c = c.answer.ensures.answer c.in_ok-noted.noted (replied_by c)
 
 pub returns-clause-told : goal.returns-clause-told
 returns-clause-told c =
-    c.with_entry.ensures ∙ ap (λ l. l ++ entry c.args.question c.in_ok-noted.noted ∷ []) c.in_ok-entries.ensures.entries
+    c.in_ok-push.ensures.ok
     ∙ ap (λ w. w.log ++ entry c.args.question c.in_ok-noted.noted ∷ []) c.self.view_is
     ∙ ap (λ a. c.args.self.now.log ++ entry c.args.question a ∷ []) (sym (same c))
 
