@@ -110,7 +110,8 @@ fn decide_standard<X: Outside, Q: Quota, C: ClassifyRetry>(
                 reason: decision.reason,
                 sums: sums_in_force(quota, settings),
             };
-            Ok(Answer::Decided(paused(decision), Some(Shared::new(alloc, note)?)))
+            let note = Shared::new(alloc, note)?;
+            Ok(Answer::Decided(paused(decision), Some(note)))
         }
         None => Ok(Answer::Absent),
     }

@@ -23,7 +23,7 @@ returns-in-Some g c =
           c.in-Some.decision,
           rw (c.settings-settings.ensures, c.run_each-verdict.ensures) at decides,
           c.paused.ensures,
-          rw (c.sums_in_force.ensures, c.settings-settings.ensures, c.run_each-verdict.ensures) refl,
+          rw (c.in_ok-note.ensures, c.sums_in_force.ensures, c.settings-settings.ensures, c.run_each-verdict.ensures) refl,
         );
       },
     )
