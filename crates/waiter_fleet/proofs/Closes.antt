@@ -114,7 +114,7 @@ module _ {T : Type 0} (does : T → FleetCall → T → Type 0) (o : Origin T) (
       is.backoff ≡ was.backoff → is.number ≡ min (was.number + 1) (2 ^ 32 - 1) → is.zero_used ≡ (nanos == 0) →
       is.sleep ≡ (if nanos == 0 then None else Some sleep) → is.ended ≡ was.ended →
       ended waiter (events_of acts) ≡ false →
-      logged ≡ events ++ Sleep waiter nanos found.elapsed word ∷ [] → at ≡ found.moment + nanos →
+      logged ≡ events ++ Sleep waiter nanos found.elapsed word ∷ [] → at ≡ min (found.moment + nanos) (2 ^ 64 - 1) →
       Rests does o start waiter acts at is logged book new left
   unfolding poll
   closes-resting is logged word nanos sleep at new stays delays chain backoff number zero sleeps over waits same comes =

@@ -1,5 +1,5 @@
 -- A fleet's turns, from the first to the last.
-use Rattle.std.proofs.Common.{◌≡◌, ℕ, ◌+◌, ◌<◌, ◌⊎◌, inl, inr, List, [], Bool, true, false, arith, ap, sym, subst, refl, ◌∙◌, length}
+use Rattle.std.proofs.Common.{◌≡◌, ℕ, ◌+◌, ◌-◌, ◌^◌, ◌<◌, ◌⊎◌, inl, inr, List, [], Bool, true, false, arith, ap, sym, subst, refl, ◌∙◌, length, min}
 use Rattle.std.proofs.lemmas.Bool.{cases_eq}
 use Rattle.std.proofs.lemmas.List.{append-nil}
 use Rattle.smithy_types.specs.declared.timers.TimersCall.TheVariants.{Now}
@@ -15,24 +15,24 @@ use Rattle.waiter_fleet.specs.Schedules.{Adds, Has, Takes}
 use Rattle.waiter_fleet.specs.Steps.{Halts, Kept, Origin}
 use Rattle.waiter_fleet.proofs.Standing.{spends-one}
 
--- one waiter more is due at the start
-pub scheduled-more : (count start : ℕ) (dues later : List Due) (moment : ℕ) → moment ≡ start → IsScheduled count start [] dues →
+-- one waiter more is due at the start, which is a moment
+pub scheduled-more : (count start : ℕ) (dues later : List Due) (moment : ℕ) → moment ≡ start → start < 2 ^ 64 → IsScheduled count start [] dues →
     Adds dues (record { moment = moment; waiter = count }) later → IsScheduled (count + 1) start [] later
-scheduled-more count start dues later moment same scheduled adds = record {
+scheduled-more count start dues later moment same told scheduled adds = record {
   within = λ one has. elim (adds.none_else one has) [
     | inl is ↦ let P : Due → Type 0 = λ x. x.waiter < count + 1 in subst P (sym is) (omega arith)
     | inr old ↦ let before = scheduled.within one old in omega arith
   ];
   waits = λ one has. refl;
   at = λ one has. elim (adds.none_else one has) [
-    | inl is ↦ let P : Due → Type 0 = λ x. x.moment ≡ start + 0 in subst P (sym is) (omega arith)
+    | inl is ↦ let P : Due → Type 0 = λ x. x.moment ≡ min (start + 0) (2 ^ 64 - 1) in subst P (sym is) (omega arith)
     | inr old ↦ scheduled.at one old
   ];
   each = λ k within waits. elim (cases_eq k count) [
     | inl is ↦
-        let P : ℕ → Type 0 = λ j. Has later (record { moment = start + 0; waiter = j }) in
+        let P : ℕ → Type 0 = λ j. Has later (record { moment = min (start + 0) (2 ^ 64 - 1); waiter = j }) in
         let Q : ℕ → Type 0 = λ at. Has later (record { moment = at; waiter = count }) in
-        let at : moment ≡ start + 0 = omega arith in
+        let at : moment ≡ min (start + 0) (2 ^ 64 - 1) = omega arith in
         subst P (sym is) (subst Q at adds.there)
     | inr apart ↦ adds.kept _ (scheduled.each k (omega arith) waits)
   ];

@@ -1,5 +1,5 @@
 -- What the events of a fleet tell of a waiter. The last event stands first.
-use Rattle.std.specs.Prelude.{ℕ, ◌+◌, ◌/◌, ◌==◌, ◌||◌, Bool, true, false, List, [], ◌∷◌, ◌++◌, if◌then◌else◌}
+use Rattle.std.specs.Prelude.{ℕ, ◌+◌, ◌-◌, ◌/◌, ◌^◌, ◌==◌, ◌||◌, Bool, true, false, List, [], ◌∷◌, ◌++◌, if◌then◌else◌, min}
 use Rattle.smithy_types.specs.declared.kinds.ErrorKind.TheVariants.{ServerError}
 use Rattle.waiters.specs.Delay.{second}
 use Rattle.retry_quota.specs.Book.{Book, cost_of}
@@ -92,9 +92,9 @@ abbrev pub ended : ℕ → List FleetEvent → Bool
 ended waiter [] = false
 ended waiter (event ∷ before) = ended_with waiter event (ended waiter before)
 
--- when its next poll is due
+-- when its next poll is due; a sum past the greatest moment stops there
 abbrev pub due : ℕ → ℕ → List FleetEvent → ℕ
-due start waiter events = last_moment start waiter events + last_sleep waiter events
+due start waiter events = min (last_moment start waiter events + last_sleep waiter events) (2 ^ 64 - 1)
 
 -- what an event makes of the bucket: a charge acquires and forgets at once, a refusal acquires
 abbrev pub book_with : ℕ → FleetEvent → Book → Book

@@ -15,7 +15,8 @@ use crate::world::FleetWorld;
 use smithy_types::OutOfMemory;
 use std::alloc::Global;
 
-/// Ends a waiter behind its poll or lets it sleep, and answers when it is due again, if it is.
+/// Ends a waiter behind its poll or lets it sleep, and answers when it is due again, if it is. A due
+/// moment stops at the greatest one.
 pub(crate) fn closed<W: FleetWorld>(
     alloc: Global,
     waiter: u32,
@@ -23,7 +24,7 @@ pub(crate) fn closed<W: FleetWorld>(
     seat: &mut Seat,
     world: &mut W,
     log: &mut Log,
-) -> Result<Option<u128>, OutOfMemory>
+) -> Result<Option<u64>, OutOfMemory>
     requires { W.sleeps world.old ≡ true }
     ensures events { (o : Origin W) (start : ℕ) (acts : List Act) (book : Book) →
         Polled W.does o start waiter acts seat.old found log.old.events.items book world.old
@@ -57,5 +58,5 @@ pub(crate) fn closed<W: FleetWorld>(
         elapsed: found.elapsed,
         word: pause.word,
     })?;
-    Ok(Some(u128::from(found.moment) + u128::from(pause.nanos)))
+    Ok(Some(found.moment.saturating_add(pause.nanos)))
 }

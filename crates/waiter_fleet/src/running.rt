@@ -27,8 +27,10 @@ fn schedule_of(alloc: Global, count: u32, start: u64) -> Result<Schedule, OutOfM
 {
     let mut schedule = Schedule::new(alloc);
     for waiter in 0..count {
-        let moment = u128::from(start);
-        schedule.insert(Due { moment, waiter })?;
+        schedule.insert(Due {
+            moment: start,
+            waiter,
+        })?;
     }
     Ok(schedule)
 }

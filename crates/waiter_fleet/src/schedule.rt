@@ -11,8 +11,8 @@ use std::marker::Model;
 /// When a waiter is due. What is due first is least, ties by the waiters' numbers.
 #[derive(Clone, Copy, Debug, Drop, PartialEq, Eq, PartialOrd, Ord)]
 pub(crate) struct Due {
-    /// The moment, in nanoseconds.
-    pub moment: u128,
+    /// The moment, in nanoseconds, which stops at the greatest u64.
+    pub moment: u64,
     /// The waiter's number.
     pub waiter: u32,
 }

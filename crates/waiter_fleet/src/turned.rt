@@ -4,7 +4,7 @@
 #[derive(Clone, Copy, Drop)]
 pub(crate) enum Turned {
     /// The waiter sleeps until this moment, in nanoseconds.
-    Sleeps(u128),
+    Sleeps(u64),
     /// It ended.
     Ended,
     /// The fuel was spent before its turn was over.
