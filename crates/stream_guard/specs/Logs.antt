@@ -48,6 +48,14 @@ pub record CatchesUp (old : Log) (now : ℕ) (new : Log) : Type 0 where
   pub latest : new.latest ≡ max (own_bin old.start old.resolution now) old.latest
   pub bins : Shifted (new.latest - old.latest) old.bins new.bins
 
+-- how many bins are pushed where all move so many places on: one a place, and none where all ten go
+abbrev pub pushes_for : ℕ → ℕ
+pushes_for places = if nat_lt places 10 then places else 0
+
+-- how many are pushed where a log sees a moment
+abbrev pub pushes_at : Log → ℕ → ℕ
+pushes_at log now = pushes_for (own_bin log.start log.resolution now - log.latest)
+
 -- the latest bin has the event too
 pub record AddsEvent (old : Log) (event : Bin) (new : Log) : Type 0 where
   pub settings : SameSettings old new

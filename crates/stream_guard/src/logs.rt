@@ -71,6 +71,7 @@ impl ThroughputLogs {
       SameSettings,
       CatchesUp,
       AddsEvent,
+      pushes_at,
       shown,
     };
     ghost use Rattle.stream_guard.specs.Report.{Came, Pending, Transferred, Looked, report_of};
@@ -116,11 +117,12 @@ impl ThroughputLogs {
         self.add(Bin::PENDING);
     }
 
-    /// The same, with a count of the pushes of bins.
+    /// The same, with each push of a bin counted by these steps.
     pub fn push_pending_counted<L: Ledger>(&mut self, now: u64, steps: &mut Steps<L>)
         ensures settings { SameSettings self.old self.new }
         ensures kept { (came : List Came) → Keeps self.old came
             → Keeps self.new (came ++ Pending now ∷ []) }
+        ensures counted { steps.new ≡ steps.old + pushes_at self.old now }
         ensures cost { steps.new ≤ steps.old + 10 }
     {
         self.catch_up_counted(now, steps);
@@ -137,7 +139,7 @@ impl ThroughputLogs {
         self.add(Bin::transferred(bytes));
     }
 
-    /// The same, with a count of the pushes of bins.
+    /// The same, with each push of a bin counted by these steps.
     pub fn push_bytes_transferred_counted<L: Ledger>(
         &mut self,
         now: u64,
@@ -147,6 +149,7 @@ impl ThroughputLogs {
         ensures settings { SameSettings self.old self.new }
         ensures kept { (came : List Came) → Keeps self.old came
             → Keeps self.new (came ++ Transferred now bytes ∷ []) }
+        ensures counted { steps.new ≡ steps.old + pushes_at self.old now }
         ensures cost { steps.new ≤ steps.old + 10 }
     {
         self.catch_up_counted(now, steps);
@@ -176,13 +179,14 @@ impl ThroughputLogs {
         self.current_report()
     }
 
-    /// The same, with a count of the pushes of bins.
+    /// The same, with each push of a bin counted by these steps.
     pub fn report_counted<L: Ledger>(&mut self, now: u64, steps: &mut Steps<L>) -> ThroughputReport
         ensures settings { SameSettings self.old self.new }
         ensures kept { (came : List Came) → Keeps self.old came
             → Keeps self.new (came ++ Looked now ∷ []) }
         ensures report { (came : List Came) → Keeps self.old came
             → result ≡ report_of self.old.start self.old.resolution self.old.complete came now }
+        ensures counted { steps.new ≡ steps.old + pushes_at self.old now }
         ensures cost { steps.new ≤ steps.old + 10 }
     {
         self.catch_up_counted(now, steps);
@@ -223,9 +227,10 @@ impl ThroughputLogs {
         self.catch_up_counted(now, &mut steps);
     }
 
-    // The same, with a count of the pushes of bins.
+    // The same, with each push of a bin counted by these steps.
     fn catch_up_counted<L: Ledger>(&mut self, now: u64, steps: &mut Steps<L>)
         ensures caught_up { CatchesUp self.old now self.new }
+        ensures counted { steps.new ≡ steps.old + pushes_at self.old now }
         ensures cost { steps.new ≤ steps.old + 10 }
     {
         let bin = bin_of(self.start, self.resolution, now);

@@ -17,6 +17,7 @@ ghost use Rattle.std.specs.Prelude.{
 };
 ghost use Rattle.stream_guard.specs.Bin.{Shifted, back, merged, no_polling};
 ghost use Rattle.stream_guard.specs.Judged.{judged_bins};
+ghost use Rattle.stream_guard.specs.Logs.{pushes_for};
 ghost use Rattle.stream_guard.specs.Ring.{IsRing};
 
 use crate::totals::Totals;
@@ -87,6 +88,7 @@ impl BinRing {
     /// come in.
     pub(crate) fn advance<L: Ledger>(&mut self, places: u128, steps: &mut Steps<L>)
         ensures moved { Shifted places self.old self.new }
+        ensures counted { steps.new ≡ steps.old + pushes_for places }
         ensures few { steps.new ≤ steps.old + 10 }
     {
         if places < 10 {
