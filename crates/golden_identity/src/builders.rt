@@ -1,11 +1,19 @@
 //! Builders of lazy caches, and what they build or refuse.
 
-use anyhow::Result;
-use identity_cell::{IdentityCache, LazyCacheBuilder};
+use anyhow::{Result, bail};
+use identity_cell::{IdentityCache, LazyCacheBuilder, LazyCacheTerms, SharedIdentityCache};
 use smithy_types::BuildError;
 use std::alloc::Global;
 
 const SECOND: u64 = 1_000_000_000;
+
+/// The numbers of the cache that the builder builds.
+pub fn terms_of(builder: LazyCacheBuilder) -> Result<LazyCacheTerms> {
+    match builder.build() {
+        Ok(SharedIdentityCache::Lazy(terms)) => Ok(terms),
+        _ => bail!("no cache is built"),
+    }
+}
 
 // What the builder builds, or why it doesn't, and whether it came back as it was.
 fn built(alloc: Global, builder: LazyCacheBuilder) -> Result<String> {

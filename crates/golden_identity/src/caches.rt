@@ -1,8 +1,9 @@
 //! Caches by scheme, asked step by step.
 
+use crate::builders::terms_of;
 use crate::clients::{Client, identity};
 use anyhow::Result;
-use identity_cell::LazyCacheTerms;
+use identity_cell::{LazyCacheBuilder, LazyCacheTerms};
 use smithy_context::Settings;
 
 /// What is asked of a cache. Moments are in seconds.
@@ -105,13 +106,10 @@ const ROWS: &[Row] = &[
     },
 ];
 
-fn terms(row: &Row) -> LazyCacheTerms {
-    LazyCacheTerms {
-        load_timeout: row.load_timeout,
-        buffer: 10_000_000_000,
-        default_expiration: 900_000_000_000,
-        max_partitions: row.max_partitions,
-    }
+fn terms(row: &Row) -> Result<LazyCacheTerms> {
+    let mut builder = LazyCacheBuilder::new().max_partitions(row.max_partitions);
+    builder.set_load_timeout(row.load_timeout);
+    terms_of(builder)
 }
 
 // What the cache answers.
@@ -136,7 +134,7 @@ fn answer(
 }
 
 fn print_row(rt: &HostRuntime, settings: &Settings, row: &Row) -> Result<()> {
-    let mut client = Client::new(rt.alloc(), terms(row), row.sleeps);
+    let mut client = Client::new(rt.alloc(), terms(row)?, row.sleeps);
     println!(rt; "cache: {}, {:?}", row.name, client.cache.terms())?;
     for step in row.steps {
         let text = answer(rt, &mut client, settings, *step)?;

@@ -1,7 +1,8 @@
 //! When loaded identities expire.
 
+use crate::builders::terms_of;
 use anyhow::Result;
-use identity_cell::{LazyCacheTerms, jitter, stored_expiry};
+use identity_cell::{LazyCacheBuilder, jitter, stored_expiry};
 
 /// A buffer in nanoseconds, and a random word.
 const JITTERS: [(u64, u64); 5] = [
@@ -60,13 +61,11 @@ const ROWS: &[Row] = &[
 ];
 
 // The expiry of the row, by the function and by a cache's numbers.
-fn expiries(row: &Row) -> (u64, u64) {
-    let terms = LazyCacheTerms {
-        load_timeout: None,
-        buffer: row.buffer,
-        default_expiration: row.default_expiration,
-        max_partitions: 1,
-    };
+fn expiries(row: &Row) -> Result<(u64, u64)> {
+    let builder = LazyCacheBuilder::new()
+        .buffer_time(row.buffer)
+        .default_expiration(row.default_expiration);
+    let terms = terms_of(builder)?;
     let stored = stored_expiry(
         row.expiration,
         row.asked_at,
@@ -74,14 +73,12 @@ fn expiries(row: &Row) -> (u64, u64) {
         row.buffer,
         row.word,
     );
-    (
-        stored,
-        terms.expiry_of(row.expiration, row.asked_at, row.word),
-    )
+    let by_terms = terms.expiry_of(row.expiration, row.asked_at, row.word);
+    Ok((stored, by_terms))
 }
 
 fn print_row(rt: &HostRuntime, row: &Row) -> Result<()> {
-    let (stored, by_terms) = expiries(row);
+    let (stored, by_terms) = expiries(row)?;
     println!(rt;
         "expiry {:?}, asked at {}, default {}, buffer {}, word {}: {stored}, {by_terms}",
         row.expiration, row.asked_at, row.default_expiration, row.buffer, row.word

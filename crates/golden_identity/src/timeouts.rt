@@ -1,7 +1,8 @@
 //! The longest loads, with the settings that stand.
 
+use crate::builders::terms_of;
 use anyhow::Result;
-use identity_cell::{LazyCacheTerms, load_timeout};
+use identity_cell::{LazyCacheBuilder, load_timeout};
 use smithy_context::{Layer, Setting, Settings};
 use smithy_types::{OutOfMemory, ReconnectMode, RetryConfig, RetryMode, TimeoutConfig};
 use std::alloc::Global;
@@ -97,13 +98,8 @@ fn settings(alloc: Global, standing: Standing) -> Result<Settings, OutOfMemory> 
 }
 
 // How long a load may take, by the settings and by a cache's number.
-fn timeouts(alloc: Global, standing: Standing) -> Result<(u64, u64), OutOfMemory> {
-    let terms = LazyCacheTerms {
-        load_timeout: Some(1_000_000_000),
-        buffer: 0,
-        default_expiration: 900_000_000_000,
-        max_partitions: 1,
-    };
+fn timeouts(alloc: Global, standing: Standing) -> Result<(u64, u64)> {
+    let terms = terms_of(LazyCacheBuilder::new().load_timeout(1_000_000_000))?;
     let settings = settings(alloc, standing)?;
     Ok((load_timeout(&settings), terms.timeout_in(&settings)))
 }

@@ -7,5 +7,6 @@ pub mod LoadSleep
 pub mod Log
 pub mod Runs
 pub mod Shared
+pub mod Terms
 pub mod Timeout
 pub mod Waiting

@@ -175,12 +175,13 @@ impl LazyCacheBuilder {
         if let Some(error) = self.refusal() {
             return Err((self, error));
         }
-        Ok(SharedIdentityCache::Lazy(LazyCacheTerms {
-            load_timeout: self.load_timeout,
-            buffer: self.buffer_time.unwrap_or(DEFAULT_BUFFER),
-            default_expiration: self.default_expiration.unwrap_or(DEFAULT_EXPIRATION),
-            max_partitions: self.max_partitions.unwrap_or(DEFAULT_PARTITIONS),
-        }))
+        let terms = LazyCacheTerms::new(
+            self.load_timeout,
+            self.buffer_time.unwrap_or(DEFAULT_BUFFER),
+            self.default_expiration.unwrap_or(DEFAULT_EXPIRATION),
+            self.max_partitions.unwrap_or(DEFAULT_PARTITIONS),
+        );
+        Ok(SharedIdentityCache::Lazy(terms))
     }
 }
 

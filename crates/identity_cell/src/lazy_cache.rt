@@ -122,7 +122,7 @@ impl LazyCache {
         ensures answer { IfOk result (AnswersLook (empty_cell self.old.terms.buffer) now) }
         ensures err { OnErr result (self.new ≡ self.old) }
     {
-        let mut cell = CellCore::new(self.terms.buffer);
+        let mut cell = CellCore::new(self.terms.buffer());
         let looked = cells::look_at(&mut cell, alloc, now)?;
         self.add(id.clone()?, cell)?;
         self.drop_oldest();
@@ -144,7 +144,7 @@ impl LazyCache {
     fn drop_oldest(&mut self)
         ensures { self.new ≡ within_most self.old }
     {
-        if self.cells.len() as u64 <= self.terms.max_partitions {
+        if self.cells.len() as u64 <= self.terms.max_partitions() {
             return;
         }
         if let Some((_, cell)) = self.cells.shift_remove_index(0) {
