@@ -1,5 +1,5 @@
 //! The auth options that were refused, each with what it lacks.
-ghost use Rattle.std.specs.Prelude.{◌≡◌, ◌++◌, ◌∷◌, [], OnOk};
+ghost use Rattle.std.specs.Prelude.{◌≡◌, ◌++◌, ◌∷◌, [], OnErr, OnOk};
 ghost use Rattle.auth_endpoint.specs.Choice.{KeepsFirst};
 
 use smithy_types::{List, OutOfMemory, Text};
@@ -51,16 +51,17 @@ impl ExploredList {
         }
     }
 
-    /// Notes one refused option more.
+    /// Notes one refused option more. After an `Err` the list is as it was.
     pub fn push(
         &mut self,
         alloc: Global,
         scheme_id: &Text,
         lack: ExploreResult,
     ) -> Result<(), OutOfMemory>
-        ensures { OnOk result ((all : _) → KeepsFirst all self.old
+        ensures noted { OnOk result ((all : _) → KeepsFirst all self.old
             → KeepsFirst
             (all ++ record { scheme_id = scheme_id.now; result = lack } ∷ []) self.new) }
+        ensures err { OnErr result (self.new ≡ self.old) }
     {
         if self.items.len() < MAX_EXPLORED {
             let scheme_id = scheme_id.clone()?;

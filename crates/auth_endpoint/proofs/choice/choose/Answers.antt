@@ -9,4 +9,4 @@ returns-in-None-clause-chosen c =
 
 pub loop-index-preserved : goal.loop-index-preserved
 loop-index-preserved c =
-    none_more _ c.as_slice-options.result.now c.loop-index.index c.index-options-index.result c.in-Some.lack c.loop-index.explored c.push.new.self c.loop-index.invariant c.loop-index-test.true c.index-options-index.is (sym c.lack_of.ensures ∙ c.in-Some.is) c.in_ok-push-in-Some.ensures
+    none_more _ c.as_slice-options.result.now c.loop-index.index c.index-options-index.result c.in-Some.lack c.loop-index.explored c.push.new.self c.loop-index.invariant c.loop-index-test.true c.index-options-index.is (sym c.lack_of.ensures ∙ c.in-Some.is) c.in_ok-push-in-Some.ensures.noted
