@@ -1,3 +1,4 @@
+pub mod Gated
 pub mod Means
 pub mod Invoking
 pub mod Working

@@ -1,4 +1,4 @@
-//! The outside of a caller: it follows a script, and a gate is asked before each of its calls.
+//! An outside that follows a script, and the gate that is asked before each of its calls.
 ghost use Rattle.std.specs.Prelude.{◌≡◌, [], None, Some};
 ghost use Rattle.cli_client.specs.Opening.{outside_at};
 
@@ -19,13 +19,18 @@ pub struct GatedOutside<'g, G: Gate> {
     calls: u64,
 }
 
-/// It is seen as the outside behind the gate.
+/// It is seen as the outside with its gate, its caller, and how many calls were begun.
 impl<'g, G: Gate> Model for GatedOutside<'g, G> {
-    ghost use Rattle.outside_scripted.specs.declared.scripted_outside.ScriptedOutside.{ScriptedOutside};
+    ghost use Rattle.cli_fleet.specs.Gated.{Gated};
 
-    ghost Value = { ScriptedOutside };
+    ghost Value = { Gated G };
 
-    ghost view = { λ gated. gated.outside };
+    ghost view = { λ gated. record {
+      outside = gated.outside;
+      gate = gated.gate.now;
+      caller = gated.caller;
+      calls = gated.calls;
+    } };
 }
 
 impl<'g, G: Gate> GatedOutside<'g, G> {
@@ -39,7 +44,12 @@ impl<'g, G: Gate> GatedOutside<'g, G> {
         gate: &'g G,
         caller: u32,
     ) -> GatedOutside<'g, G>
-        ensures { result ≡ outside_at start words }
+        ensures { result ≡ record {
+          outside = outside_at start words;
+          gate = gate.now;
+          caller = caller;
+          calls = 0;
+        } }
     {
         GatedOutside {
             outside: ScriptedOutside::new(alloc, start, words),
@@ -57,7 +67,9 @@ impl<'g, G: Gate> GatedOutside<'g, G> {
         records: List<ResponseRecord>,
         identities: Shared<List<IdentityRecord>>,
     )
-        ensures { self.new ≡ begun records identities self.old }
+        ensures { self.new ≡ record self.old {
+          outside = begun records identities self.old.outside;
+        } }
     {
         self.outside.begin_invocation(alloc, records, identities);
     }
@@ -65,13 +77,14 @@ impl<'g, G: Gate> GatedOutside<'g, G> {
 
 impl<'g, G: Gate> Timers for GatedOutside<'g, G> {
     ghost use Rattle.std.specs.Prelude.{Some, true};
-    ghost use Rattle.outside_scripted.specs.Makes.{Ticks};
+    ghost use Rattle.outside.specs.Calls.{OfTimers};
+    ghost use Rattle.cli_fleet.specs.Gated.{Passes};
 
-    ghost moment = { λ s. Some s.moment };
+    ghost moment = { λ s. Some s.outside.moment };
 
     ghost sleeps = { λ _. true };
 
-    ghost relates = { Ticks };
+    ghost relates = { λ old call new. Passes G.passed old (OfTimers call) new };
 
     fn has_sleep(&self) -> bool {
         true
@@ -96,12 +109,11 @@ impl<'g, G: Gate> Timers for GatedOutside<'g, G> {
 
 impl<'g, G: Gate> Outside for GatedOutside<'g, G> {
     ghost use Rattle.std.specs.Prelude.{refl};
-    ghost use Rattle.outside_scripted.specs.Makes.{Makes};
-    ghost use Rattle.outside_scripted.specs.Counting.{each_failure_is_counted};
+    ghost use Rattle.cli_fleet.specs.Gated.{Passes, passed_is_counted};
 
-    ghost makes = { Makes };
+    ghost makes = { Passes G.passed };
 
-    ghost faults = { λ s. s.faults };
+    ghost faults = { λ s. s.outside.faults };
 
     fn begin(
         &mut self,
@@ -150,5 +162,5 @@ impl<'g, G: Gate> Outside for GatedOutside<'g, G> {
 
     ghost sleeps_stay = { λ old call new made. refl };
 
-    ghost counts = { each_failure_is_counted };
+    ghost counts = { passed_is_counted G.passed };
 }

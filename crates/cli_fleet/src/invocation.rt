@@ -4,8 +4,8 @@ ghost use Rattle.retry_quota.specs.Calls.{limiters_by};
 ghost use Rattle.cli_fleet.specs.Invoking.{InvokedOver, RunsAll, RunsOne};
 ghost use Rattle.cli_fleet.specs.Means.{world_means};
 
+use crate::caller_outside::CallerOutside;
 use crate::gate::Gate;
-use crate::gated::GatedOutside;
 use cli_client_runs::invocation::head_of;
 use cli_client_runs::print::print_invocation;
 use cli_shell::status::PrintStatus;
@@ -28,7 +28,7 @@ use std::mem;
 
 /// The client of a caller. Q is its quota, C a classifier and I an interceptor.
 pub type CallerWorld<'g, G, Q, C, I> = RuntimeComponents<
-    GatedOutside<'g, G>,
+    CallerOutside<'g, G>,
     Q,
     C,
     I,

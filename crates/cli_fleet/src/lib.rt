@@ -3,6 +3,7 @@
 #![tactic(auto)]
 
 pub mod caller;
+pub mod caller_outside;
 pub mod command;
 pub mod gate;
 pub mod gated;

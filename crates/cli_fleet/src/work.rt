@@ -8,8 +8,8 @@ ghost use Rattle.cli_fleet.specs.Invoking.{RunsAll};
 ghost use Rattle.cli_fleet.specs.Means.{cell_means, world_means};
 ghost use Rattle.cli_fleet.specs.Working.{PlaysAll, Worked, caller_partition, partition_for};
 
+use crate::caller_outside::CallerOutside;
 use crate::gate::Gate;
-use crate::gated::GatedOutside;
 use crate::invocation::{CallerTarget, CallerWorld, run_all};
 use cli_shell::status::PrintStatus;
 use client_retries::TakeOffer;
@@ -207,7 +207,7 @@ pub fn do_work<'w, B: At, G: Gate, R: Wait>(
         Ok(prepared) => prepared,
         Err(error) => return (Err(error), pass),
     };
-    let outside = GatedOutside::new(alloc, start, words, gate, number);
+    let outside = CallerOutside::new(alloc, start, words, gate, number);
     let limiter = ClientRateLimiter::zero();
     let quota = CellQuota::<B, ClientRateLimiter, R>::new(rt, bucket, pass, limiter);
     match builder.build(alloc, outside, quota) {

@@ -40,6 +40,8 @@ impl HoldingGate {
 }
 
 impl Gate for HoldingGate {
+    ghost passed = { λ _ _ _. Unit {0} };
+
     fn pass(&self, caller: u32, call: u64) {
         match (caller, call) {
             (0, 0) => self.hold(),
