@@ -386,6 +386,7 @@ fn tell_header(
     name: &HeaderName,
     value: &HeaderValue,
 ) -> Result<()> {
+    let value = value.to_str()?;
     let part = format!(in alloc; "; {name}: {value:?}")?;
     text.push_str(&part)?;
     Ok(())
@@ -416,6 +417,15 @@ fn print_token(rt: &HostRuntime, row: &TokenRow) -> Result<()> {
     let request = put_request(rt.alloc(), "http://h/p?a=1", row.headers)?;
     let text = line(rt.alloc(), &BearerAuthScheme::new(), request, row.token)?;
     println!(rt; "{:?}: {text}", row.token)?;
+    Ok(())
+}
+
+// A signed request as it is shown for debugging: neither its query nor its token.
+fn print_shown(rt: &HostRuntime) -> Result<()> {
+    let headers = [("authorization", "old"), ("x", "1")];
+    let request = put_request(rt.alloc(), "http://h/p?key=k", &headers)?;
+    let signed = signed(rt.alloc(), &BearerAuthScheme::new(), request, "tok")?;
+    println!(rt; "{signed:?}")?;
     Ok(())
 }
 
@@ -515,6 +525,7 @@ pub fn print(rt: &HostRuntime) -> Result<()> {
     for row in TOKENS {
         print_token(rt, row)?;
     }
+    print_shown(rt)?;
     for name in NAMES {
         print_full(rt, name)?;
     }

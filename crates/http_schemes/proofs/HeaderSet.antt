@@ -3,11 +3,11 @@ use Rattle.std.proofs.Common.{◌≡◌, ◌≢◌, ◌∷◌, [], ℕ, suc, Lis
 use Rattle.std.proofs.lemmas.Slice.Eq.{bytes_eq-Decides}
 use Rattle.std.specs.Str.{bytes_eq}
 use Rattle.http_header.specs.FieldName.{IsFieldName}
-use Rattle.http_header.specs.FieldValue.{FieldValue, IsFieldValue, plain_value}
+use Rattle.http_header.specs.FieldValue.{FieldValue, IsFieldValue}
 use Rattle.http_header.specs.HeaderMap.{Entries, insert, ContainsKey, RefusesInsert}
 use Rattle.http_header.specs.Token.{lowercase}
 use Rattle.smithy_types.specs.HeaderList.{HeaderList}
-use Rattle.http_schemes.specs.Signing.{Unless, with_header, RefusesHeader}
+use Rattle.http_schemes.specs.Signing.{Unless, with_header, RefusesHeader, secret_value}
 
 module _ {X : Type 0} where
   -- a name that was set is there
@@ -40,10 +40,10 @@ empty_unless (x ∷ xs) h = absurd (untrue (h (clash x xs)))
     untrue e = cc
 
 -- the name and the value are such, so all depends on the map
-pub set_or_refused : {E : Type 0} (headers : HeaderList) (name value : List ℕ) (map : HeaderList) (lower : List ℕ) (field : FieldValue) (r : Result (Option HeaderList) E) → (lower ≡ lowercase name) × (¬ (¬ (IsFieldName name))) → (field ≡ plain_value value) × (¬ (¬ (IsFieldValue value))) → map ≡ headers → IfOk r (Unless (RefusesInsert map lower) (insert map lower field)) → IfOk r (Unless (RefusesHeader headers name value) (with_header headers name value))
+pub set_or_refused : {E : Type 0} (headers : HeaderList) (name value : List ℕ) (map : HeaderList) (lower : List ℕ) (field : FieldValue) (r : Result (Option HeaderList) E) → (lower ≡ lowercase name) × (¬ (¬ (IsFieldName name))) → (field ≡ secret_value value) × (¬ (¬ (IsFieldValue value))) → map ≡ headers → IfOk r (Unless (RefusesInsert map lower) (insert map lower field)) → IfOk r (Unless (RefusesHeader headers name value) (with_header headers name value))
 set_or_refused headers name value map lower field r n v m h = by r (subst (λ x. IfOk r (Unless (RefusesInsert headers (lowercase name)) (insert headers (lowercase name) x))) v.0 (subst (λ x. IfOk r (Unless (RefusesInsert headers x) (insert headers x field))) n.0 (subst (λ x. IfOk r (Unless (RefusesInsert x lower) (insert x lower field))) m h)))
   where
-    by : {E : Type 0} (r : Result (Option HeaderList) E) → IfOk r (Unless (RefusesInsert headers (lowercase name)) (insert headers (lowercase name) (plain_value value))) → IfOk r (Unless (RefusesHeader headers name value) (with_header headers name value))
+    by : {E : Type 0} (r : Result (Option HeaderList) E) → IfOk r (Unless (RefusesInsert headers (lowercase name)) (insert headers (lowercase name) (secret_value value))) → IfOk r (Unless (RefusesHeader headers name value) (with_header headers name value))
     by (Ok None) refused = inr (inr refused)
     by (Ok (Some new)) (is, fits) = (is, λ refused. elim refused [ inl bad ↦ n.1 bad | inr other ↦ elim other [ inl worse ↦ v.1 worse | inr full ↦ fits full ] ])
     by (Err e) h = tt

@@ -4,7 +4,6 @@ use Rattle.std.proofs.lemmas.Bool.{cond-true, cond-false}
 use Rattle.std.proofs.lemmas.List.Elements.{All-head, All-tail}
 use Rattle.percent_encoding.specs.Percent.{percent_decode}
 use Rattle.percent_encoding.proofs.PercentLemmas.{percent_decode-nil, percent_decode_not_percent, percent_decode-percent_encode_byte}
-use Rattle.http_header.specs.FieldValue.{plain_value}
 use Rattle.http_header.specs.Token.{lowercase}
 use Rattle.smithy_types.specs.declared.http.HttpRequest.{HttpRequest}
 use Rattle.auth_endpoint.specs.declared.scheme.Signed.{Signed}
@@ -12,7 +11,7 @@ use Rattle.auth_endpoint.specs.declared.scheme.Signed.TheVariants.{Request, Fail
 use Rattle.http_schemes.specs.Encoding.{is_unreserved, encoded_byte, encoded}
 use Rattle.http_schemes.specs.declared.api_key.ApiKeyLocation.{ApiKeyLocation}
 use Rattle.http_schemes.specs.declared.api_key.ApiKeyLocation.TheVariants.{Header, Query}
-use Rattle.http_schemes.specs.Signing.{SignsByHeader, SignsByKey, SignsByQuery, prefixed, with_header}
+use Rattle.http_schemes.specs.Signing.{SignsByHeader, SignsByKey, SignsByQuery, prefixed, secret_value, with_header}
 use Rattle.http_schemes.proofs.TargetLemmas.{stays_with_key, not_both}
 use Rattle.http_schemes.proofs.HeaderSet.{contains_inserted, inserted_twice}
 
@@ -50,14 +49,14 @@ stays_signed name value request new (Request again) (made, fits) (remade, refits
     ap Request (
     remade
     ∙ (λ i. record (made i) { headers = with_header (made i).headers name value })
-    ∙ (λ i. record request { headers = inserted_twice request.headers (lowercase name) (plain_value value) i })
+    ∙ (λ i. record request { headers = inserted_twice request.headers (lowercase name) (secret_value value) i })
     ∙ sym made)
 stays_signed name value request new (Failed text) (made, fits) (said, refused) =
     absurd (elim refused [
       | inl n ↦ fits (inl n)
       | inr r ↦ elim r [
         | inl v ↦ fits (inr (inl v))
-        | inr full ↦ full.0 (rw (ap (λ r. r.headers) made) (contains_inserted request.headers (lowercase name) (plain_value value)))
+        | inr full ↦ full.0 (rw (ap (λ r. r.headers) made) (contains_inserted request.headers (lowercase name) (secret_value value)))
       ]
     ])
 

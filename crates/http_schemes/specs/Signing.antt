@@ -1,7 +1,7 @@
 -- What signing makes of a request.
-use Rattle.std.specs.Prelude.{◌≡◌, ◌⊎◌, ◌++◌, ℕ, List, Option, None, Some, codes}
+use Rattle.std.specs.Prelude.{◌≡◌, ◌⊎◌, ◌++◌, ℕ, List, Option, None, Some, codes, true}
 use Rattle.http_header.specs.HeaderMap.{insert, RefusesInsert}
-use Rattle.http_header.specs.FieldValue.{IsFieldValue, plain_value}
+use Rattle.http_header.specs.FieldValue.{FieldValue, IsFieldValue}
 use Rattle.http_header.specs.FieldName.{IsFieldName}
 use Rattle.http_header.specs.Token.{lowercase}
 use Rattle.smithy_types.specs.HeaderList.{HeaderList}
@@ -17,9 +17,13 @@ abbrev pub Unless : {X : Type 0} → Type 0 → X → Option X → Type 0
 Unless refused x None = refused
 Unless refused x (Some y) = (y ≡ x) × ¬ refused
 
--- the value in place of all those of the name
+-- the value of a header that isn't shown for debugging
+abbrev pub secret_value : List ℕ → FieldValue
+secret_value bytes = record { bytes = bytes; is_sensitive = true }
+
+-- the value, as a secret, in place of all those of the name
 abbrev pub with_header : HeaderList → List ℕ → List ℕ → HeaderList
-with_header headers name value = insert headers (lowercase name) (plain_value value)
+with_header headers name value = insert headers (lowercase name) (secret_value value)
 
 -- the name is none, or the value is none, or the name is new and the map is full
 abbrev pub RefusesHeader : HeaderList → List ℕ → List ℕ → Type 0

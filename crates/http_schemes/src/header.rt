@@ -1,10 +1,11 @@
 //! Signing by a header.
 ghost use Rattle.std.specs.Prelude.{◌≡◌, IfOk};
 ghost use Rattle.http_header.specs.HeaderMap.{insert, RefusesInsert};
-ghost use Rattle.http_header.specs.FieldValue.{IsFieldValue, plain_value};
+ghost use Rattle.http_header.specs.FieldValue.{IsFieldValue};
 ghost use Rattle.http_header.specs.FieldName.{IsFieldName};
 ghost use Rattle.http_header.specs.Token.{lowercase};
-ghost use Rattle.http_schemes.specs.Signing.{Unless, with_header, RefusesHeader, SignsByHeader};
+ghost use Rattle.http_schemes.specs.Signing.{Unless, with_header, RefusesHeader, secret_value};
+ghost use Rattle.http_schemes.specs.Signing.{SignsByHeader};
 
 use auth_endpoint::Signed;
 use http_header::{
@@ -24,12 +25,15 @@ fn read_name(alloc: Global, name: &[u8]) -> Result<Option<HeaderName>, OutOfMemo
     }
 }
 
-// The value, if it is one.
+// The value, if it is one, marked so that `Debug` doesn't show it.
 fn read_value(alloc: Global, value: &[u8]) -> Result<Option<HeaderValue>, OutOfMemory>
-    ensures { IfOk result (Unless (¬ (IsFieldValue value.now)) (plain_value value.now)) }
+    ensures { IfOk result (Unless (¬ (IsFieldValue value.now)) (secret_value value.now)) }
 {
     match HeaderValue::from_bytes(alloc, value) {
-        Ok(value) => Ok(Some(value)),
+        Ok(mut value) => {
+            value.set_sensitive(true);
+            Ok(Some(value))
+        }
         Err(HeaderValueError::Invalid) => Ok(None),
         Err(HeaderValueError::OutOfMemory) => Err(OutOfMemory),
     }
@@ -81,8 +85,9 @@ fn signed_map(
     inserted(map, name, value)
 }
 
-/// The request with the value in place of all those of the name. The refusal is `BadHeader`: the
-/// name or the value is none, or the name is new and the map is full.
+/// The request with the value in place of all those of the name, marked as sensitive, so that
+/// `Debug` shows `** redacted **` for it. The refusal is `BadHeader`: the name or the value is none,
+/// or the name is new and the map is full.
 pub fn sign_by_header(
     alloc: Global,
     mut request: HttpRequest,
