@@ -1,5 +1,5 @@
 -- What is answered to the three steps of the configuration.
-use Rattle.std.specs.Prelude.{Bool, ◌&&◌, not, if◌then◌else◌, List, [], ℕ, codes}
+use Rattle.std.specs.Prelude.{◌&&◌, not, if◌then◌else◌, List, [], ℕ, codes}
 use Rattle.run_grammar.specs.declared.answer.Answer.{Answer}
 use Rattle.run_grammar.specs.declared.answer.Answer.TheVariants as answers
 use Rattle.run_grammar.specs.declared.kind.ConfigureStage.{ConfigureStage}

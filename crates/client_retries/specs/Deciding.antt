@@ -13,7 +13,6 @@ use Rattle.run_grammar.specs.declared.answer.Answer.TheVariants as answers
 use Rattle.smithy_context.specs.declared.context.InterceptorContext.{InterceptorContext}
 use Rattle.smithy_types.specs.declared.notes.Choice.{Choice}
 use Rattle.smithy_types.specs.declared.notes.Choice.TheVariants.{No, NoAfter}
-use Rattle.smithy_types.specs.declared.notes.DecideNote.{DecideNote}
 use Rattle.smithy_types.specs.declared.notes.RetryAction.{RetryAction}
 use Rattle.smithy_types.specs.declared.sums.Sums.{Sums}
 use Rattle.client_retries.specs.Meanings.{QuotaMeans}

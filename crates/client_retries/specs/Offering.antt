@@ -1,5 +1,5 @@
 -- What the interceptors are offered before their chain runs.
-use Rattle.std.specs.Prelude.{ℕ, Bool, if◌then◌else◌, List, [], ◌∷◌, map, Option, None, Some, option_map, option_and_then}
+use Rattle.std.specs.Prelude.{ℕ, if◌then◌else◌, List, [], ◌∷◌, map, Option, None, Some}
 use Rattle.retry_policy.specs.Interceptors.{is_before_retry_loop, is_after_deserialization}
 use Rattle.retry_policy.specs.Standing.{standing_partition, standing_retry}
 use Rattle.retry_quota.specs.Calls.{QuotaCall, FoundBucket}

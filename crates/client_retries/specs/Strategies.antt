@@ -1,5 +1,5 @@
 -- What a client's strategy holds.
-use Rattle.std.specs.Prelude.{◌≡◌, ℕ, Option, None, Some}
+use Rattle.std.specs.Prelude.{◌≡◌, Option, None}
 use Rattle.retry_policy.specs.Decision.{permit_of, releasing}
 use Rattle.retry_policy.specs.declared.standard.StandardRetryStrategy.{StandardRetryStrategy}
 use Rattle.retry_quota.specs.Calls.{Calls}

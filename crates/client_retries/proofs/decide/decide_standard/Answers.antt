@@ -8,8 +8,8 @@ sums_in_force-requires g c =
     let made = rw c.in-Some.is at c.in_ok-decision.ensures in
     in_force _ _ _ _ _ _ _ _ _ _ _ (rw made at c.should_attempt_retry-decided.ensures.decides)
 
-pub returns-in-Some : goal.returns-in-Some
-returns-in-Some g c =
+pub returns-in_ok-note-in-Some : goal.returns-in_ok-note-in-Some
+returns-in_ok-note-in-Some g c =
     let made = rw c.in-Some.is at c.in_ok-decision.ensures in
     let decides = rw made at c.should_attempt_retry-decided.ensures.decides in (
       _,
@@ -23,7 +23,7 @@ returns-in-Some g c =
           c.in-Some.decision,
           rw (c.settings-settings.ensures, c.run_each-verdict.ensures) at decides,
           c.paused.ensures,
-          rw (c.in_ok-note.ensures, c.sums_in_force.ensures, c.settings-settings.ensures, c.run_each-verdict.ensures) refl,
+          rw (c.in_ok-note-in-Some.ensures, c.sums_in_force.ensures, c.settings-settings.ensures, c.run_each-verdict.ensures) refl,
         );
       },
     )
