@@ -20,11 +20,13 @@ pub trait World {
     ghost relates: { Self → List Entry → Self → Type 0 };
 
     /// Answers one question. The log grows by the question with the answer, which fits it. Where
-    /// there is no memory the log stays as it was, or grows by the question with `NoMemory`.
+    /// there is no memory the log grows by the question with `NoMemory`, or stays as it was; in the
+    /// latter case all of the world stays as it was.
     fn ask(&mut self, alloc: Global, question: Question) -> Result<Answer, OutOfMemory>
         ensures told { IfOk result (λ a. calls self.new ≡ calls self.old ++ entry question a ∷ []) }
         ensures fitting { IfOk result (λ a. fits (kind_of_question question) a ≡ true) }
         ensures lost { OnErr result (Unanswered question (calls self.old) (calls self.new)) }
+        ensures kept { OnErr result (calls self.new ≡ calls self.old → self.new ≡ self.old) }
         ensures related { IfOk result (λ a. (w : Self) (l : List Entry) → relates w l self.old →
             relates w (l ++ entry question a ∷ []) self.new) };
 
