@@ -1,6 +1,6 @@
 -- Each answer fits its question.
 use Rattle.std.proofs.Common.{◌≡◌, refl, ap, ◌∙◌, ℕ, Bool, true, false, ◌&&◌, not, if◌then◌else◌, List, [], Option, None, Some, inl, inr}
-use Rattle.client_call.proofs.Fitting.{starts_fit, waits_fit, loaded_fits, transmits_fit, reads_fit, abandoned_fits, parked_fits}
+use Rattle.client_call.proofs.Fitting.{starts_fit, waits_fit, loaded_fits, transmits_fit, reads_fit}
 use Rattle.client_auth.specs.Applying as applying
 use Rattle.client_auth.specs.Caching.{Answered, Continues, GoesOnCached}
 use Rattle.client_auth.specs.Choosing as choosing
@@ -25,7 +25,7 @@ use Rattle.identity_cell.specs.declared.identity_load.IdentityLoad.{IdentityLoad
 use Rattle.outside.specs.Calls.{OutsideCall}
 use Rattle.outside.specs.declared.answers.IdentityPoll.{IdentityPoll}
 use Rattle.outside.specs.declared.answers.IdentityPoll.TheVariants as polled
-use Rattle.client_retries.specs.Configuring.{configured, no_sleep, no_time_source}
+use Rattle.client_retries.specs.Configuring.{no_sleep, no_time_source}
 use Rattle.client_retries.specs.Deciding.{DecidesSo, IsDecided}
 use Rattle.client_retries.specs.Initially.{BeginsSo, Begun}
 use Rattle.client_retries.specs.Meanings.{QuotaMeans}
@@ -53,7 +53,6 @@ use Rattle.smithy_types.specs.declared.http.HttpRequest.{HttpRequest}
 use Rattle.smithy_types.specs.declared.http.HttpResponse.{HttpResponse}
 use Rattle.smithy_types.specs.declared.identity.Endpoint.{Endpoint}
 use Rattle.smithy_types.specs.declared.identity.Identity.{Identity}
-use Rattle.smithy_types.specs.declared.notes.DecideNote.{DecideNote}
 use Rattle.smithy_types.specs.declared.notes.RetryAction.{RetryAction}
 use Rattle.smithy_types.specs.declared.payload.Payload.{Payload}
 use Rattle.client_components.specs.Calling.{Abandons}

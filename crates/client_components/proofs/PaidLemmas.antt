@@ -1,14 +1,12 @@
 -- Served lists pay for their further attempts.
-use Rattle.std.proofs.Common.{◌≡◌, ◌<◌, ◌≤◌, ◌∙◌, ap, refl, sym, subst, ℕ, Bool, true, false, if◌then◌else◌, List, [], ◌∷◌, Option, Some, None, arith}
+use Rattle.std.proofs.Common.{◌≡◌, ◌<◌, ◌∙◌, ap, refl, sym, subst, ℕ, Bool, true, false, if◌then◌else◌, List, [], ◌∷◌, Option, Some, None, arith}
 use Rattle.std.specs.Prelude.{Result, nat_le}
 use Rattle.std.specs.List.{AllByRecursion}
-use Rattle.std.proofs.lemmas.Bool.{false≢true}
 use Rattle.std.proofs.lemmas.Bool.Decides.{nat_tests}
 use Rattle.outside.specs.Calls.{OutsideCall}
 use Rattle.smithy_context.specs.Failures.{is_failure}
 use Rattle.smithy_context.specs.StandingLayers.{StandingLayers}
 use Rattle.smithy_context.specs.declared.context.InterceptorContext.{InterceptorContext}
-use Rattle.smithy_types.specs.declared.config.RetryConfig.{RetryConfig}
 use Rattle.smithy_types.specs.declared.notes.Choice.{Choice}
 use Rattle.smithy_types.specs.declared.notes.Choice.TheVariants.{Yes, No, NoAfter, Delay}
 use Rattle.smithy_types.specs.declared.notes.DecideNote.{DecideNote}
@@ -17,11 +15,9 @@ use Rattle.smithy_types.specs.declared.notes.Reason.TheVariants.{OutOfAttempts, 
 use Rattle.smithy_types.specs.declared.notes.RetryAction.{RetryAction}
 use Rattle.smithy_types.specs.declared.notes.RetryAction.TheVariants.{NoActionIndicated, RetryIndicated, RetryForbidden}
 use Rattle.retry_quota.specs.declared.permit.Permit.{Permit}
-use Rattle.retry_policy.specs.Decision.{Case, Decides, case_of, refusing, retrying, deciding, decision, held_on}
+use Rattle.retry_policy.specs.Decision.{Case, case_of, refusing, retrying, deciding, held_on}
 use Rattle.retry_policy.specs.Standing.{standing_retry}
-use Rattle.retry_policy.specs.declared.decision.Decision.{Decision}
-use Rattle.retry_policy.specs.declared.standard.StandardRetryStrategy.{StandardRetryStrategy}
-use Rattle.client_retries.specs.Deciding.{IsDecided, DecidesSo, paused_for}
+use Rattle.client_retries.specs.Deciding.{IsDecided, paused_for}
 use Rattle.client_retries.specs.Hooking.{seen_context}
 use Rattle.client_retries.specs.Strategies.{held_by}
 use Rattle.client_retries.specs.declared.strategy.RetryStrategy.{RetryStrategy}
@@ -32,7 +28,7 @@ use Rattle.run_grammar.specs.declared.answer.Entry.{Entry}
 use Rattle.run_grammar.specs.declared.question.Question.{Question}
 use Rattle.run_grammar.specs.declared.question.Question.TheVariants as questions
 use Rattle.client_components.specs.Retrying.{decided_view}
-use Rattle.client_components.specs.Paying.{IsPaid, PaysFor, AnswerPays, Pays}
+use Rattle.client_components.specs.Paying.{PaysFor, AnswerPays, Pays}
 use Rattle.client_components.specs.Serving.{Means, Answers, Served}
 use Rattle.client_components.specs.declared.parts.Parts.{Parts}
 

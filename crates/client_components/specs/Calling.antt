@@ -1,5 +1,5 @@
 -- Start, Wait, Transmit, Body, Abandon and Park: each speaks of the parts that it touches, and the others stay.
-use Rattle.std.specs.Prelude.{◌≡◌, ℕ, Bool, true, false, List, [], ◌∷◌, Option}
+use Rattle.std.specs.Prelude.{◌≡◌, ℕ, Bool, true, false, [], ◌∷◌, Option}
 use Rattle.client_auth.specs.Identities.{at_rest, ending_choice}
 use Rattle.client_call.specs.Ending.{abandoning, call_without, sleeps_without}
 use Rattle.client_call.specs.Reading as reading

@@ -1,5 +1,5 @@
 -- What is open is ended, and outside and quota are exchanged.
-use Rattle.std.specs.Prelude.{◌≡◌, List, ◌++◌}
+use Rattle.std.specs.Prelude.{◌≡◌, ◌++◌}
 use Rattle.client_auth.specs.Identities.{at_rest, ending_choice}
 use Rattle.client_call.specs.Ending.{ending_calls}
 use Rattle.client_call.specs.Sleeping.{no_sleeps}

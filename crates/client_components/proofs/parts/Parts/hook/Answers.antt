@@ -1,0 +1,18 @@
+use Rattle.std.proofs.Common.{◌≡◌, ◌++◌, take, drop, length, refl, arith}
+use Rattle.std.proofs.Math.Seq.{take-append_seam}
+use Rattle.std.proofs.lemmas.Result.{IfOk-weaker}
+use Rattle.smithy_types.proofs.ChainLemmas.{chained_join}
+use Rattle.client_components.proofs.parts.Parts.hook.Goals as goal
+
+pub returns : goal.returns
+returns g c =
+    let new = c.hook.new.interceptors in
+    let old = c.args.self.now.interceptors in
+    let many : old.len ≡ length new = omega (arith, c.as_mut_slice.ensures.len, c.hook.auto.interceptors) in
+    let back : take old.len (new ++ drop (length new) old.items) ≡ new = rw many (take-append_seam new _) in
+    IfOk-weaker c.hook.result _ _ (λ a h. record {
+      calls = h.0;
+      made = chained_join g.X.Outside.makes _ _ _ _ _ c.end_sleeps.ensures.calls h.1;
+      hooks = rw back h.2;
+      others = rw c.end_sleeps.ensures.sleeps refl;
+    }) (rw (c.as_slice.ensures.value, c.as_mut_slice.ensures.value) at c.hook.ensures)
