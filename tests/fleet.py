@@ -1,18 +1,20 @@
 """Lets `fleet` run callers under one bucket, and works out anew what each of them prints: from the
 script, and from which of its retries were granted, as its own lines say. Then the steps of all
-callers are counted, and compared with the sums of the bucket and the length of its history.
+callers are counted, and compared with the sums of the bucket and the length of its history. Scripts
+that are none, or pass a limit, are refused.
 
 It knows callers without deadlines and without auth, whose every request gets a response.
 """
 import json
 import random
-from typing import Iterable, Iterator, List, Optional, Tuple
+from typing import Iterable, Iterator, List, NamedTuple, Optional, Tuple
 
-from .support.program import EXAMPLES, ProgramTest, run
+from .support.program import EXAMPLES, ProgramTest, Ran, run
 from .support.scripts import Words, to_lines, to_text
 
 KINDS = {"throttle": "ThrottlingError", "transient": "TransientError", "server": "ServerError"}
 CALLERS, INVOCATIONS = 16, 50
+NO_SCRIPT, TOO_LARGE, SERVICE_ERROR, UNFINISHED = 2, 6, 10, 11
 # Capacities of the bucket, with the thousandths of a token that a success is rewarded with.
 BUCKETS = [(100, 0), (500, 0), (100, 1500)]
 # The choice of an attempt, and the note on it.
@@ -255,10 +257,148 @@ def made(capacity: int, reward: int) -> dict:
     return {"bucket": terms, "start": 7, "words": [5, 6], "callers": callers}
 
 
+BUSY, TEAPOT = "[0,503,[],[],false,null],", "[0,418,"
+TERMS = "[500,5,5,10,0,0]"
+STANDARD = '["Standard",3,1000000000,20000000000,"ReconnectOnTransientError",true,null]'
+# What stands in a script, and what is put in its place.
+Changes = List[Tuple[str, str]]
+
+
+class Row(NamedTuple):
+    """Callers of an example, each with a retry or without an invocation, and what is changed in
+    their script; then the status, what is left in the bucket, and the steps of all.
+    """
+
+    name: str
+    busy: int
+    idle: int
+    changes: Changes
+    status: int = 0
+    left: List[int] = [500, 0, 500, 0, 0]
+    steps: int = 0
+
+
+# Changes of terms, of responses and of fuel.
+LITTLE = (TERMS, "[9,5,5,10,0,0]")
+AT_ONCE = (BUSY, "")
+# Each prints the same however its callers take turns.
+ROWS = [
+    Row(
+        "the bucket left to the client's partition",
+        busy=2,
+        idle=0,
+        changes=[('"bucket":0', '"bucket":null')],
+        steps=4,
+    ),
+    Row(
+        "two retries each",
+        busy=2,
+        idle=0,
+        changes=[(TEAPOT, BUSY + "[0,200,")],
+        left=[500, 0, 480, 0, 20],
+        steps=8,
+    ),
+    Row("a caller without invocations", busy=0, idle=1, changes=[]),
+    Row("no retry is paid for", 2, 0, [LITTLE], SERVICE_ERROR, [9, 0, 9, 0, 0], 2),
+    Row("the last caller invokes nothing", 1, 1, [LITTLE], SERVICE_ERROR, [9, 0, 9, 0, 0], 1),
+    Row("a success that was not retried", busy=1, idle=0, changes=[AT_ONCE], steps=1),
+    Row(
+        "fuel that ends behind the decision",
+        busy=1,
+        idle=0,
+        changes=[AT_ONCE, ('"fuel":1000', '"fuel":33')],
+        status=UNFINISHED,
+        steps=1,
+    ),
+    Row(
+        "a caller that never retries",
+        busy=1,
+        idle=0,
+        changes=[(STANDARD, '"never"')],
+        status=SERVICE_ERROR,
+    ),
+    Row(
+        "a permit that is held at the end",
+        busy=1,
+        idle=0,
+        changes=[(TEAPOT, "[0,503,"), ('"Standard",3', '"Standard",2')],
+        status=SERVICE_ERROR,
+        steps=2,
+    ),
+    Row("sixteen callers", busy=16, idle=0, changes=[AT_ONCE], steps=16),
+    Row(
+        "fuel of 100000 together",
+        busy=2,
+        idle=0,
+        changes=[('"fuel":1000', '"fuel":50000')],
+        steps=4,
+    ),
+    Row(
+        "a bucket of the greatest capacity",
+        busy=0,
+        idle=1,
+        changes=[('"bucket":[500,', '"bucket":[500000000,')],
+        left=[500000000, 0, 500000000, 0, 0],
+    ),
+]
+# Callers of which one passes a limit.
+TOO_LARGE_ROWS = [
+    Row("seventeen callers", 17, 0, []),
+    Row("fuel of 100002 together", 2, 0, [('"fuel":1000', '"fuel":50001')]),
+    Row("a bucket past the greatest capacity", 0, 1, [('"bucket":[500,', '"bucket":[500000001,')]),
+]
+# What stands in the script of one caller with a retry, and what in its place leaves no script.
+NO_SCRIPTS = [
+    ('"bucket":0', '"bucket":1'),
+    (TERMS, f"[{TERMS}]"),
+    (TERMS, "[500,5,5,10,0]"),
+    ('"start":0,', ""),
+    ('"start":0', '"start":0.0'),
+    ('"start":0', '"start":0,"fuel":1'),
+    ('"invocations"', '"number":0,"invocations"'),
+    ('"input"', '"client":0,"input"'),
+    ('"stop":"None",', ""),
+]
+
+
+def changed(text: str, changes: Changes) -> str:
+    """The text with each change made. What is changed must stand there."""
+    for old, new in changes:
+        if old not in text:
+            raise ValueError(f"{old} isn't in the script")
+        text = text.replace(old, new)
+    return text
+
+
+def spelled(callers: List[dict]) -> str:
+    """The script of these callers under one bucket."""
+    script = {"bucket": [500, 5, 5, 10, 0, 0], "start": 0, "words": [], "callers": callers}
+    return json.dumps(script, separators=(",", ":"))
+
+
+def example_caller() -> dict:
+    """A caller with a retry."""
+    return json.loads((EXAMPLES / "fleet/a_retry_each.json").read_text())["callers"][0]
+
+
+def text_of(row: Row) -> str:
+    """The script of a row."""
+    busy = example_caller()
+    idle = {**busy, "invocations": []}
+    return changed(spelled([busy] * row.busy + [idle] * row.idle), row.changes)
+
+
+def without_fuel(count: int) -> dict:
+    """A caller with so many invocations that may ask nothing."""
+    invocation = {"input": [1, ""], "fuel": 0, "stop": "None", "responses": []}
+    return {**example_caller(), "invocations": [invocation] * count}
+
+
 class FleetTest(ProgramTest):
-    def compare(self, text: str):
+    def compare(self, text: str) -> Ran:
         """Compares the print of a script with one that is worked out for some order of steps."""
-        script, printed = json.loads(text), run("fleet", text=text).output
+        ran = run("fleet", text=text)
+        script, printed = json.loads(text), ran.output
         *lines, bucket, history = to_lines(printed)
         told = lines_by_caller(lines)
         self.assertEqual(len(told), len(script["callers"]))
@@ -272,6 +412,33 @@ class FleetTest(ProgramTest):
         self.assertEqual(bucket[:2], ["bucket", 0])
         self.assertTrue(Ended(script, steps).allows(bucket[2]), f"the bucket ends as {bucket[2]}")
         self.assertEqual(history, ["history", len(steps)])
+        return ran
+
+    def test_callers_whose_print_no_schedule_changes(self):
+        for row in ROWS:
+            with self.subTest(row.name):
+                status, output = self.compare(text_of(row))
+                *_, bucket, history = to_lines(output)
+                wanted = (row.status, ["bucket", 0, row.left], ["history", row.steps])
+                self.assertEqual((status, bucket, history), wanted)
+
+    def test_callers_that_pass_a_limit(self):
+        for row in TOO_LARGE_ROWS:
+            with self.subTest(row.name):
+                self.assertEqual(run("fleet", text=text_of(row)), (TOO_LARGE, ""))
+
+    def test_ten_thousand_invocations_and_one_more(self):
+        for count, status in ((5000, UNFINISHED), (5001, TOO_LARGE)):
+            with self.subTest(count):
+                text = spelled([without_fuel(count), without_fuel(5000)])
+                self.assertEqual(run("fleet", text=text).status, status)
+
+    def test_texts_that_are_no_script(self):
+        self.assertEqual(run("fleet", text=spelled([])), (NO_SCRIPT, ""))
+        for old, new in NO_SCRIPTS:
+            with self.subTest(old=old, new=new):
+                text = changed(spelled([example_caller()]), [(old, new)])
+                self.assertEqual(run("fleet", text=text), (NO_SCRIPT, ""))
 
     def test_examples(self):
         for script in sorted(EXAMPLES.glob("fleet/*.json")):

@@ -1,5 +1,6 @@
 """Runs the program over streams that give or take little at a time, and over streams that fail when
-some of it is through. The module `streams` has those that fail from the start.
+some of it is through: each command over a source that fails behind each 64 bytes, and over a sink
+that fails there. The module `streams` has those that fail from the start.
 """
 import fcntl
 import os
@@ -7,12 +8,13 @@ import resource
 import socket
 import subprocess
 import tempfile
-from typing import Iterator, Tuple
+from typing import Iterator, Sequence, Tuple
 
 from .support import program
 from .support.program import EXAMPLES, ProgramTest
 
 READ_FAULT, WRITE_FAULT = 3, 4
+PIECE = 64
 SCRIPT = (EXAMPLES / "teapot.json").read_bytes()
 PRINT = (EXAMPLES / "teapot.txt").read_bytes()
 LONG_SCRIPT = (EXAMPLES / "fleet/two_retries_each.json").read_bytes()
@@ -20,6 +22,18 @@ LONG_PRINT = (EXAMPLES / "fleet/two_retries_each.txt").read_bytes()
 # Linux's number of the call that sets how much a pipe holds.
 SET_PIPE_SIZE = 1031
 NARROWEST = 4096
+
+# Commands that read, each with its input.
+READING = [
+    ("replay", SCRIPT),
+    ("client", (EXAMPLES / "client/a_retry_after_503.json").read_bytes()),
+    ("fleet", (EXAMPLES / "fleet/a_retry_each.json").read_bytes()),
+    ("wait", (EXAMPLES / "wait/fifth_poll.json").read_bytes()),
+    ("waiters", (EXAMPLES / "waiters/both.json").read_bytes()),
+    ("check", PRINT),
+]
+# Commands that read nothing.
+TELLING = [("make", "3", "7"), ("--help",), ("--version",)]
 
 # The status of a run, and what it wrote.
 Ended = Tuple[int, bytes]
@@ -41,8 +55,8 @@ def from_a_sender_of_pieces(size: int) -> Ended:
         return started.wait(), output
 
 
-def from_a_sender_that_breaks_off(sent: bytes) -> Ended:
-    """A replay that reads these bytes, and then that the connection was reset: its other end was
+def from_a_sender_that_breaks_off(sent: bytes, words: Sequence[str] = ("replay",)) -> Ended:
+    """A run that reads these bytes, and then that the connection was reset: its other end was
     closed with a byte that nobody read.
     """
     sender, receiver = socket.socketpair()
@@ -50,7 +64,7 @@ def from_a_sender_that_breaks_off(sent: bytes) -> Ended:
         with sender:
             receiver.send(b"?")
             sender.send(sent)
-        asked = [program.path(), "replay"]
+        asked = [program.path(), *words]
         ended = subprocess.run(asked, stdin=receiver, stdout=subprocess.PIPE, check=False)
         return ended.returncode, ended.stdout
 
@@ -105,6 +119,30 @@ class PieceTest(ProgramTest):
         for sent in (b"", SCRIPT[:7], SCRIPT):
             with self.subTest(sent=len(sent)):
                 self.assertEqual(from_a_sender_that_breaks_off(sent), (READ_FAULT, b""))
+
+    def test_a_source_that_fails_behind_any_piece_is_a_read_fault(self):
+        for command, text in READING:
+            for front in [*range(0, len(text), PIECE), len(text)]:
+                with self.subTest(command, front=front):
+                    ended = from_a_sender_that_breaks_off(text[:front], [command])
+                    self.assertEqual(ended, (READ_FAULT, b""))
+
+    def test_a_command_that_reads_nothing_ends_well_over_a_source_that_fails(self):
+        for words in TELLING:
+            with self.subTest(words[0]):
+                status, output = from_a_sender_that_breaks_off(b"", words)
+                self.assertEqual(status, 0)
+                self.assertGreater(len(output), 0)
+
+    def test_a_sink_that_fails_behind_any_piece_has_a_front(self):
+        commands = [*(((command,), text) for command, text in READING)]
+        for words, text in [*commands, *((words, b"") for words in TELLING)]:
+            asked = [program.path(), *words]
+            whole = subprocess.run(asked, input=text, stdout=subprocess.PIPE, check=True).stdout
+            for size in range(0, len(whole), PIECE):
+                with self.subTest(words[0], size=size):
+                    ended = into_a_file_of(size, *words, text=text)
+                    self.assertEqual(ended, (WRITE_FAULT, whole[:size]))
 
     def test_a_file_that_is_full_in_the_middle_has_a_front(self):
         self.assertEqual(into_a_file_of(8, "--version"), (WRITE_FAULT, b"smithy_r"))
