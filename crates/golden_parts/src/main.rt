@@ -1,0 +1,44 @@
+//! Prints what the parts of a client do by themselves, to be compared with a print that was made
+//! without them: buckets and limiters, retries, kept identities, and fleets of waiters.
+//!
+//! The word `identities` leaves the rows of kept identities alone. A number as the word lets so many
+//! waiters wait that are paid for, and prints how many events that makes, so that the instructions
+//! of an event can be counted.
+#![tactic(auto)]
+
+mod fleets;
+mod identity;
+mod policy;
+mod quota;
+
+use anyhow::{Context, Result};
+use std::env;
+use std::io::Print;
+use std::sync::Wait;
+use std::thread::Threads;
+
+fn main(rt: HostRuntime) -> Result<()> {
+    let mut words = env::args(&rt)?.skip(1);
+    match words.next() {
+        Some(word) => print_asked(rt, &rt, word.as_str()),
+        None => print_all(rt, &rt),
+    }
+}
+
+fn print_asked<R: Print + Threads + Wait + Sync>(
+    rt: HostRuntime,
+    threads: &R,
+    word: &str,
+) -> Result<()> {
+    match word {
+        "identities" => identity::print(rt, threads),
+        count => fleets::print_many(rt, count.parse().context("reading the number of waiters")?),
+    }
+}
+
+fn print_all<R: Print + Threads + Wait + Sync>(rt: HostRuntime, threads: &R) -> Result<()> {
+    quota::print(rt, threads)?;
+    policy::print(rt)?;
+    identity::print(rt, threads)?;
+    fleets::print(rt)
+}
