@@ -1,16 +1,20 @@
-//! Prints what the engine answers over a script of retries and over short runs, to be compared with
-//! a print that was made without it.
+//! Prints what the engine answers over a script of retries and over short runs, the texts of its
+//! errors, and the tables of its grammar, to be compared with a print that was made without it.
 //!
 //! The words are the number of delays and the fuel of the runs that are measured (`cost`).
 #![tactic(auto)]
 
 mod cost;
 mod crossing;
+mod grammar;
 mod short;
+mod texts;
 
 use anyhow::Result;
 
 fn main(rt: HostRuntime) -> Result<()> {
     cost::print(rt)?;
-    short::print(rt)
+    short::print(rt)?;
+    texts::print(&rt)?;
+    grammar::print(rt)
 }

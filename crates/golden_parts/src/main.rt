@@ -1,5 +1,5 @@
 //! Prints what the parts of a client do by themselves, to be compared with a print that was made
-//! without them: buckets and limiters, retries, kept identities, and fleets of waiters.
+//! without them: buckets and limiters, retries, kept identities, fleets of waiters, and guards of bodies.
 //!
 //! The word `identities` leaves the rows of kept identities alone. A number as the word lets so many
 //! waiters wait that are paid for, and prints how many events that makes, so that the instructions
@@ -7,9 +7,11 @@
 #![tactic(auto)]
 
 mod fleets;
+mod guards;
 mod identity;
 mod policy;
 mod quota;
+mod texts;
 
 use anyhow::{Context, Result};
 use std::env;
@@ -40,5 +42,7 @@ fn print_all<R: Print + Threads + Wait + Sync>(rt: HostRuntime, threads: &R) -> 
     quota::print(rt, threads)?;
     policy::print(rt)?;
     identity::print(rt, threads)?;
-    fleets::print(rt)
+    fleets::print(rt)?;
+    guards::print(&rt)?;
+    texts::print(&rt)
 }

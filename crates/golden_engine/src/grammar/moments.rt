@@ -1,5 +1,5 @@
 //! Moments of a run, and what stands at them.
-use crate::forms::{Form, answer, payload};
+use crate::grammar::forms::{Form, answer, payload};
 use run_grammar::{Answer, ConfigureStage, Kind, Role, Standing};
 use smithy_types::OutOfMemory;
 use std::alloc::Global;

@@ -1,30 +1,18 @@
-//! Prints the texts of errors that no clause states, and what the guards of bodies go by.
-#![tactic(auto)]
-
-mod guards;
+//! Prints the texts of errors of operations, invocations and builds, which no clause states.
 
 use anyhow::Result;
 use orchestrate::InvokeError;
-use retry_policy::StrategyError;
 use smithy_types::{
     Blob, Body, BuildError, Fault, FaultKind, Headers, HttpResponse, OutOfMemory, Part, Payload,
     SdkError, Text,
 };
 use std::fmt;
-use waiter_fleet::FleetError;
-use waiters::{FinalPoll, WaiterError};
 
-fn main(rt: HostRuntime) -> Result<()> {
-    print_failures(&rt)?;
-    print_invocations(&rt)?;
-    print_waits(&rt)?;
-    print_builds(&rt)?;
-    print_text(&rt, &StrategyError::MissingSetting)?;
-    print_text(&rt, &StrategyError::OutOfMemory)?;
-    print_text(&rt, &FleetError::BadPlan { waiter: 7 })?;
-    print_text(&rt, &FleetError::OutOfMemory)?;
-    print_text(&rt, &OutOfMemory)?;
-    guards::print(&rt)
+pub fn print(rt: &HostRuntime) -> Result<()> {
+    print_failures(rt)?;
+    print_invocations(rt)?;
+    print_builds(rt)?;
+    print_text(rt, &OutOfMemory)
 }
 
 // The error's text, on a line.
@@ -55,25 +43,6 @@ fn print_invocations(rt: &HostRuntime) -> Result<()> {
         InvokeError::Unfinished,
         InvokeError::WrongType(payload()),
         InvokeError::OutOfMemory,
-    ];
-    for error in &errors {
-        print_text(rt, error)?;
-    }
-    Ok(())
-}
-
-// Why a waiter ended without success.
-fn print_waits(rt: &HostRuntime) -> Result<()> {
-    let errors: [WaiterError<u8, u8>; 5] = [
-        WaiterError::OperationFailed(SdkError::DispatchFailure(fault())),
-        WaiterError::FailureState(FinalPoll { result: Ok(0) }),
-        WaiterError::ExceededMaxWait {
-            max_wait: 300,
-            elapsed: 299,
-            poll_count: 12,
-        },
-        WaiterError::Unfinished,
-        WaiterError::OutOfMemory,
     ];
     for error in &errors {
         print_text(rt, error)?;

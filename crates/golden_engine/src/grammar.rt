@@ -1,7 +1,6 @@
 //! Prints the tables of questions and answers: for each kind of question what it hands on, which
 //! answers fit it, which of them fail, and what stands after each. Every row begins with what
 //! stands at one of a few moments of a run. Last comes which error each failure comes to.
-#![tactic(auto)]
 
 mod errors;
 mod forms;
@@ -10,14 +9,14 @@ mod moments;
 mod parts;
 mod told;
 
+use crate::grammar::errors::{FAILING, Failing, PHASES};
+use crate::grammar::forms::{FORMS, Form};
+use crate::grammar::kinds::KINDS;
+use crate::grammar::moments::{MOMENTS, Moment};
 use anyhow::Result;
-use errors::{FAILING, Failing, PHASES};
-use forms::{FORMS, Form};
-use kinds::KINDS;
-use moments::{MOMENTS, Moment};
 use run_grammar::Kind;
 
-fn main(rt: HostRuntime) -> Result<()> {
+pub fn print(rt: HostRuntime) -> Result<()> {
     for moment in MOMENTS {
         println!(rt; "{moment:?}")?;
         for kind in KINDS {

@@ -1,5 +1,5 @@
 //! What a question hands on, as one line of text.
-use crate::told::{
+use crate::grammar::told::{
     bucket_of, outcome_in, tell, tell_endpoint, tell_identity, tell_outcome, tell_request,
     tell_response, tell_view,
 };
