@@ -1,17 +1,17 @@
-//! Builds operations, and prints what comes of it: what a builder is refused for that is given one
-//! part after another, and what a client asks and answers that other setters of the builder made.
+//! Builds an operation by setters that no script of a client comes to, and prints what its client
+//! asks and answers.
 #![tactic(auto)]
 
 use anyhow::Result;
-use auth_endpoint::{AuthScheme, NoAuthScheme};
+use auth_endpoint::AuthScheme;
 use client_auth::{DeserializeResponse, IdentitySource, SerializeRequest};
-use client_builder::{BuildRefusal, OperationBuilder, Plugin, added, refusal_of};
+use client_builder::{OperationBuilder, Plugin, added, refusal_of};
 use client_components::RuntimeComponents;
 use client_retries::TakeOffer;
 use client_scripted::service::{ServiceDeserializer, ServiceError, ServiceSerializer};
 use http_schemes::bearer::HTTP_BEARER_AUTH_SCHEME_ID;
 use http_schemes::{BearerAuthScheme, HttpIdentityResolver};
-use identity_cell::{IdentityCache, NoAuthIdentityResolver, ResolveIdentity};
+use identity_cell::{IdentityCache, ResolveIdentity};
 use json_print::print::print_entries;
 use orchestrate::Operation;
 use outside::Outside;
@@ -21,10 +21,10 @@ use retry_policy::{Classifier, ClassifyRetry, ModeledAsRetryableClassifier};
 use retry_quota::{Quota, Registry};
 use run_grammar::Entry;
 use smithy_base::ComponentsDraft;
-use smithy_context::{Layer, Setting, SettingKey, Settings};
+use smithy_context::{Layer, Setting, Settings};
 use smithy_types::{
-    Blob, HttpResponse, Identity, List, OutOfMemory, Outcome, Payload, RetryConfig,
-    StalledStreamProtectionConfig, Text, TimeoutConfig,
+    Blob, HttpResponse, Identity, List, OutOfMemory, Outcome, Payload, RetryConfig, Text,
+    TimeoutConfig,
 };
 use std::alloc::Global;
 
@@ -40,27 +40,13 @@ const URL: &str = "http://localhost:1234";
 /// The most questions that an invocation asks.
 const FUEL: u64 = 200;
 
-/// How long a stream may stall: 20 s, in nanoseconds.
-const GRACE: u64 = 20_000_000_000;
-
 /// The service fails for a while, and then it accepts the order.
 const ACCEPTED_LATER: &[Row] = &[(503, "transient"), (202, "unread")];
 
 /// The operation `Brew`, over payloads.
 type Brew = Operation<Payload, Payload, ServiceError>;
 
-/// Its builder, with parts of the program's own types.
-type OwnBuilder = OperationBuilder<
-    Payload,
-    Payload,
-    ServiceError,
-    NoAuthScheme,
-    NoAuthIdentityResolver,
-    ServiceSerializer,
-    HeadDeserializer,
->;
-
-/// Its builder, with a scheme that signs.
+/// Its builder.
 type SignedBuilder = OperationBuilder<
     Payload,
     Payload,
@@ -70,9 +56,6 @@ type SignedBuilder = OperationBuilder<
     ServiceSerializer,
     HeadDeserializer,
 >;
-
-/// What comes back of a build that is refused.
-type Back<X, Q> = (OwnBuilder, X, Q, BuildRefusal);
 
 /// Reads a response of 202, Accepted, by its head alone, and any other as the service's
 /// deserializer does.
@@ -112,27 +95,15 @@ impl DeserializeResponse for HeadDeserializer {
     }
 }
 
-fn main(rt: HostRuntime) -> Result<()> {
-    print_refusals(&rt)?;
-    print_signed(&rt)
-}
-
-// Why a builder is refused that lacks parts.
-fn print_refusals(rt: &HostRuntime) -> Result<()> {
-    let outside = service(rt.alloc(), &[])?;
-    let buckets: Registry<ClientRateLimiter> = Registry::new(rt.alloc())?;
-    build_nothing(rt, outside, buckets)
-}
-
 // A client that signs, whose parts of the outside come by a plugin, and which gives a connection up
 // on which a transient failure came.
-fn print_signed(rt: &HostRuntime) -> Result<()> {
+fn main(rt: HostRuntime) -> Result<()> {
     println!(rt;
         "a token, a plugin, and two attempts, the first of which gives its connection up"
     )?;
     let outside = without_facts(service(rt.alloc(), ACCEPTED_LATER))?;
     let buckets: Registry<ClientRateLimiter> = Registry::new(rt.alloc())?;
-    brew_signed(rt, outside, buckets)
+    brew_signed(&rt, outside, buckets)
 }
 
 // The same value, without the facts that are known of it: no goal behind the setters of a builder
@@ -141,175 +112,16 @@ fn without_facts<T>(value: T) -> T {
     value
 }
 
-// Builds without any part. A plugin takes away the mark that the endpoint's parameters are set.
-fn build_nothing<X: Outside + Drop, Q: Quota + Drop>(
-    rt: &HostRuntime,
-    outside: X,
-    quota: Q,
-) -> Result<()> {
-    let plugin = unmarking(rt.alloc())?;
-    let builder: OwnBuilder = without_facts(OperationBuilder::new());
-    let builder = added(builder.runtime_plugin(rt.alloc(), plugin))?;
-    match builder.build(rt.alloc(), outside, quota) {
-        Ok(built) => tell_built(rt, built),
-        Err(back) => give_service_name(rt, back),
-    }
-}
-
-fn give_service_name<X: Outside + Drop, Q: Quota + Drop>(
-    rt: &HostRuntime,
-    back: Back<X, Q>,
-) -> Result<()> {
-    let (builder, outside, quota) = told(rt, back)?;
-    let builder = builder.service_name(Text::from_static(SERVICE));
-    match builder.build(rt.alloc(), outside, quota) {
-        Ok(built) => tell_built(rt, built),
-        Err(back) => give_operation_name(rt, back),
-    }
-}
-
-fn give_operation_name<X: Outside + Drop, Q: Quota + Drop>(
-    rt: &HostRuntime,
-    back: Back<X, Q>,
-) -> Result<()> {
-    let (builder, outside, quota) = told(rt, back)?;
-    let builder = builder.operation_name(Text::from_static(OPERATION));
-    match builder.build(rt.alloc(), outside, quota) {
-        Ok(built) => tell_built(rt, built),
-        Err(back) => give_http_client(rt, back),
-    }
-}
-
-fn give_http_client<X: Outside + Drop, Q: Quota + Drop>(
-    rt: &HostRuntime,
-    back: Back<X, Q>,
-) -> Result<()> {
-    let (builder, outside, quota) = told(rt, back)?;
-    match builder.http_client().build(rt.alloc(), outside, quota) {
-        Ok(built) => tell_built(rt, built),
-        Err(back) => give_endpoint(rt, back),
-    }
-}
-
-fn give_endpoint<X: Outside + Drop, Q: Quota + Drop>(
-    rt: &HostRuntime,
-    back: Back<X, Q>,
-) -> Result<()> {
-    let (builder, outside, quota) = told(rt, back)?;
-    let builder = builder.endpoint_url(Text::from_static(URL));
-    match builder.build(rt.alloc(), outside, quota) {
-        Ok(built) => tell_built(rt, built),
-        Err(back) => give_strategy(rt, back),
-    }
-}
-
-fn give_strategy<X: Outside + Drop, Q: Quota + Drop>(
-    rt: &HostRuntime,
-    back: Back<X, Q>,
-) -> Result<()> {
-    let (builder, outside, quota) = told(rt, back)?;
-    match builder.no_retry().build(rt.alloc(), outside, quota) {
-        Ok(built) => tell_built(rt, built),
-        Err(back) => give_serializer(rt, back),
-    }
-}
-
-fn give_serializer<X: Outside + Drop, Q: Quota + Drop>(
-    rt: &HostRuntime,
-    back: Back<X, Q>,
-) -> Result<()> {
-    let (builder, outside, quota) = told(rt, back)?;
-    let builder = builder.own_serializer(ServiceSerializer);
-    match builder.build(rt.alloc(), outside, quota) {
-        Ok(built) => tell_built(rt, built),
-        Err(back) => give_deserializer(rt, back),
-    }
-}
-
-fn give_deserializer<X: Outside + Drop, Q: Quota + Drop>(
-    rt: &HostRuntime,
-    back: Back<X, Q>,
-) -> Result<()> {
-    let (builder, outside, quota) = told(rt, back)?;
-    let builder = builder.own_deserializer(HeadDeserializer);
-    match builder.build(rt.alloc(), outside, quota) {
-        Ok(built) => tell_built(rt, built),
-        Err(back) => give_endpoint_params(rt, back),
-    }
-}
-
-// The mark comes by a plugin behind the one that took it away.
-fn give_endpoint_params<X: Outside + Drop, Q: Quota + Drop>(
-    rt: &HostRuntime,
-    back: Back<X, Q>,
-) -> Result<()> {
-    let plugin = setting(rt.alloc(), Setting::EndpointParams)?;
-    let (builder, outside, quota) = told(rt, back)?;
-    let builder = added(builder.runtime_plugin(rt.alloc(), plugin))?;
-    match builder.build(rt.alloc(), outside, quota) {
-        Ok(built) => tell_built(rt, built),
-        Err(back) => give_timeouts(rt, back),
-    }
-}
-
-fn give_timeouts<X: Outside + Drop, Q: Quota + Drop>(
-    rt: &HostRuntime,
-    back: Back<X, Q>,
-) -> Result<()> {
-    let (builder, outside, quota) = told(rt, back)?;
-    let builder = builder
-        .timeout_config(TimeoutConfig::disabled())
-        .stalled_stream_protection(protection());
-    match builder.build(rt.alloc(), outside, quota) {
-        Ok(built) => tell_built(rt, built),
-        Err(back) => Err(refusal_of(back).into()),
-    }
-}
-
-// Tells why the build was refused, and goes on with what came back.
-fn told<B: Drop, X: Drop, Q: Drop>(
-    rt: &HostRuntime,
-    back: (B, X, Q, BuildRefusal),
-) -> Result<(B, X, Q)> {
-    let (builder, outside, quota, refusal) = back;
-    println!(rt; "{refusal}")?;
-    Ok((builder, outside, quota))
-}
-
-// Tells that nothing was lacking, and lets go what was built.
-fn tell_built<T: Drop>(rt: &HostRuntime, _built: T) -> Result<()> {
-    println!(rt; "built")?;
-    Ok(())
-}
-
-// A plugin whose layer says that the endpoint's parameters aren't set.
-fn unmarking(alloc: Global) -> Result<Plugin, OutOfMemory> {
-    let mut layer = Layer::new();
-    layer.unset(alloc, SettingKey::EndpointParams)?;
-    Ok(Plugin::Static(layer, of_outside(false)))
-}
-
-// A plugin that gives this setting alone.
-fn setting(alloc: Global, setting: Setting) -> Result<Plugin, OutOfMemory> {
-    let mut layer = Layer::new();
-    layer.put(alloc, setting)?;
-    Ok(Plugin::Static(layer, of_outside(false)))
-}
-
 // A plugin that gives a prefix of the host, and says that all parts of the outside are used.
 fn prefixing(alloc: Global) -> Result<Plugin, OutOfMemory> {
     let mut layer = Layer::new();
     layer.put(alloc, Setting::Prefix(Text::from_static("tea.")))?;
-    Ok(Plugin::Static(layer, of_outside(true)))
-}
-
-// All parts of the outside, or none.
-fn of_outside(used: bool) -> ComponentsDraft {
-    ComponentsDraft {
-        sleep: used,
-        time: used,
-        client: used,
-    }
+    let draft = ComponentsDraft {
+        sleep: true,
+        time: true,
+        client: true,
+    };
+    Ok(Plugin::Static(layer, draft))
 }
 
 // Brews with a bearer token, and with retries. The outside's parts and a prefix come by a plugin.
@@ -364,15 +176,6 @@ fn token_source(alloc: Global) -> Result<IdentitySource<HttpIdentityResolver>, O
         expiration: None,
     };
     Ok(IdentitySource::Resolver(HttpIdentityResolver::new(identity)))
-}
-
-// Both streams are watched.
-fn protection() -> StalledStreamProtectionConfig {
-    StalledStreamProtectionConfig {
-        upload: true,
-        download: true,
-        grace_period: GRACE,
-    }
 }
 
 // At most three attempts, a second and two seconds apart, without a random part.

@@ -53,7 +53,15 @@ fn print_invocations(rt: &HostRuntime) -> Result<()> {
 // Why a builder refuses.
 fn print_builds(rt: &HostRuntime) -> Result<()> {
     let errors = [
+        BuildError::Missing(Part::ServiceName),
+        BuildError::Missing(Part::OperationName),
+        BuildError::Missing(Part::HttpClient),
         BuildError::Missing(Part::EndpointResolver),
+        BuildError::Missing(Part::RetryStrategy),
+        BuildError::Missing(Part::Serializer),
+        BuildError::Missing(Part::Deserializer),
+        BuildError::Missing(Part::EndpointParams),
+        BuildError::Missing(Part::Timeouts),
         BuildError::ZeroPartitions,
         BuildError::ShortExpiration,
         BuildError::DelayBelowSecond,

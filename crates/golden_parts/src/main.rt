@@ -1,11 +1,13 @@
 //! Prints what the parts of a client do by themselves, to be compared with a print that was made
-//! without them: buckets and limiters, retries, kept identities, fleets of waiters, and guards of bodies.
+//! without them: buckets and limiters, retries, kept identities, fleets of waiters, guards of bodies,
+//! and auth with its endpoints.
 //!
 //! The word `identities` leaves the rows of kept identities alone. A number as the word lets so many
 //! waiters wait that are paid for, and prints how many events that makes, so that the instructions
 //! of an event can be counted.
 #![tactic(auto)]
 
+mod auth;
 mod fleets;
 mod guards;
 mod identity;
@@ -44,5 +46,6 @@ fn print_all<R: Print + Threads + Wait + Sync>(rt: HostRuntime, threads: &R) -> 
     identity::print(rt, threads)?;
     fleets::print(rt)?;
     guards::print(&rt)?;
-    texts::print(&rt)
+    texts::print(&rt)?;
+    auth::print(&rt)
 }

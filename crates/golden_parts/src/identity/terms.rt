@@ -1,6 +1,6 @@
 //! When loaded identities expire.
 
-use crate::builders::terms_of;
+use crate::identity::builders::terms_of;
 use anyhow::Result;
 use identity_cell::{LazyCacheBuilder, jitter, stored_expiry};
 

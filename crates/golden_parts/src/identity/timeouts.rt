@@ -1,6 +1,6 @@
 //! The longest loads, with the settings that stand.
 
-use crate::builders::terms_of;
+use crate::identity::builders::terms_of;
 use anyhow::Result;
 use identity_cell::{LazyCacheBuilder, load_timeout};
 use smithy_context::{Layer, Setting, Settings};

@@ -5,6 +5,7 @@
 ghost use Rattle.std.specs.Prelude.{◌≡◌};
 
 use crate::quota::cell::{amount_of, print_sums};
+use crate::quota::registry::registers::{acquire, forget, regenerate, release, reward};
 use anyhow::Result;
 use retry_quota::free_limiter::FreeLimiter;
 use retry_quota::{Permit, Quota, TokenBucket};
@@ -20,7 +21,8 @@ const CAPACITY: u64 = 12;
 pub fn print<R: Wait>(rt: HostRuntime, wait: &R) -> Result<()> {
     print_two::<Brand, R>(rt, wait, Blank::new(2))?;
     print_paid::<Brand, R>(rt, wait, Blank::new(1))?;
-    print_earned::<Brand, R>(rt, wait, Blank::new(1))
+    print_earned::<Brand, R>(rt, wait, Blank::new(1))?;
+    print_called::<Brand, R>(rt, wait, Blank::new(2))
 }
 
 // Two handles take turns, and are joined.
@@ -170,4 +172,68 @@ fn spend<L: Ledger, R: Wait>(wait: &R, handle: &mut SharedBucket<L>) {
     if let Some(permit) = handle.acquire(wait, ErrorKind::TransientError, 0) {
         handle.forget(wait, permit);
     }
+}
+
+// A caller's quota makes each of its calls on the bucket, and another handle tells what it leaves.
+fn print_called<L: Ledger, R: Wait>(rt: HostRuntime, wait: &R, blank: Blank) -> Result<()>
+    requires name { blank.name ≡ L.name }
+    requires parts { blank.parts ≡ L.parts }
+    requires two { blank.parts ≡ 2 }
+{
+    println!(rt; "each call of a caller's quota, and the bucket behind it")?;
+    let bucket = TokenBucket::builder()
+        .capacity(CAPACITY)
+        .success_reward(1000)
+        .build();
+    let mut handle = SharedBucket::<L>::new(rt.alloc(), blank, bucket)?;
+    let mut other = handle.split(rt.alloc())?;
+    let mut quota = SharedQuota::new(wait, handle, FreeLimiter);
+    print_permits(rt, wait, &mut quota, &mut other)?;
+    print_earnings(rt, wait, &mut quota, &mut other)
+}
+
+// A permit goes back, and another one is given up.
+fn print_permits<Q: Quota, L: Ledger, R: Wait>(
+    rt: HostRuntime,
+    wait: &R,
+    quota: &mut Q,
+    other: &mut SharedBucket<L>,
+) -> Result<()> {
+    let permit = acquire(quota, 0);
+    print_behind(rt, wait, "acquire", other)?;
+    if let Some(permit) = permit {
+        release(quota, permit);
+    }
+    print_behind(rt, wait, "release", other)?;
+    let permit = acquire(quota, 0);
+    print_behind(rt, wait, "acquire", other)?;
+    if let Some(permit) = permit {
+        forget(quota, permit);
+    }
+    print_behind(rt, wait, "forget", other)
+}
+
+// A reward of a token counts once the bucket is looked at, and a token at once.
+fn print_earnings<Q: Quota, L: Ledger, R: Wait>(
+    rt: HostRuntime,
+    wait: &R,
+    quota: &mut Q,
+    other: &mut SharedBucket<L>,
+) -> Result<()> {
+    reward(quota, 0);
+    print_behind(rt, wait, "reward", other)?;
+    other.is_full(wait);
+    print_behind(rt, wait, "a look", other)?;
+    regenerate(quota, 0);
+    print_behind(rt, wait, "regenerate", other)
+}
+
+fn print_behind<L: Ledger, R: Wait>(
+    rt: HostRuntime,
+    wait: &R,
+    name: &str,
+    other: &mut SharedBucket<L>,
+) -> Result<()> {
+    println!(rt; "{name}")?;
+    print_sums(rt, other.sums(wait))
 }

@@ -63,6 +63,14 @@ const LATER: &[Request] = &[
     (2100, RequestReason::RetryTimeout),
 ];
 
+const ONE: &[Request] = &[(0, RequestReason::InitialRequest)];
+
+/// How many callers share a limiter.
+const CALLERS: u64 = 50;
+
+/// How often they all ask.
+const ROUNDS: u32 = 200;
+
 /// Prints what responses make of limiters, and what one that was throttled answers.
 pub fn print(rt: HostRuntime) -> Result<()> {
     println!(rt; "rates follow the responses")?;
@@ -72,13 +80,28 @@ pub fn print(rt: HostRuntime) -> Result<()> {
     println!(rt; "a limiter refuses nothing before a throttle")?;
     print_requests(rt, measuring(0), AT_ONCE)?;
     println!(rt; "a throttled one grants once it is filled, and its refusals take nothing")?;
-    print_requests(rt, throttled(ClientRateLimiter::new(0)), LATER)
+    print_requests(rt, throttled(ClientRateLimiter::new(0)), LATER)?;
+    println!(rt; "what is missing for less than a nanosecond is granted")?;
+    print_requests(rt, throttled(nearly_full()), ONE)?;
+    println!(rt; "requests go on behind a throttle, each where it may")?;
+    print_going_on(rt, throttled(ClientRateLimiter::new(0)))?;
+    println!(rt; "fifty callers recover behind fifty throttles")?;
+    print_recovery(rt, ClientRateLimiter::new(0))
 }
 
 // A limiter that measured this rate.
 fn measuring(rate: u64) -> ClientRateLimiter {
     ClientRateLimiter::builder()
         .tokens_retrieved_per_second(rate)
+        .build()
+}
+
+// A limiter that lacks a millionth of a token, and fills by more than a thousand tokens a second once
+// it is throttled.
+fn nearly_full() -> ClientRateLimiter {
+    ClientRateLimiter::builder()
+        .current_bucket_capacity(999_999)
+        .tokens_retrieved_per_second(10_000_000_000)
         .build()
 }
 
@@ -116,4 +139,66 @@ fn print_requests<L: Limiter + Debug>(
         println!(rt; "  {millis} ms, {reason:?}: {answer:?}, {limiter:?}")?;
     }
     Ok(())
+}
+
+// A hundred requests, the next 370 ms behind the one before, each with a success at once.
+fn print_going_on<L: Limiter + Debug>(rt: HostRuntime, mut limiter: L) -> Result<()> {
+    let mut now: u64 = 0;
+    for _ in 0..100 {
+        now = sent_at(&mut limiter, now.saturating_add(370 * MILLISECOND));
+        tell_at(&mut limiter, now, false);
+    }
+    println!(rt; "  100 requests in {now} ns: {limiter:?}")?;
+    Ok(())
+}
+
+// When a request is sent that is asked for at this moment.
+fn sent_at<L: Limiter>(limiter: &mut L, now: u64) -> u64 {
+    match limiter.acquire(now, RequestReason::InitialRequest) {
+        Ok(()) => now,
+        Err(delay) => now.saturating_add(delay),
+    }
+}
+
+fn tell_at<L: Limiter>(limiter: &mut L, now: u64, throttled: bool) {
+    limiter.update(now, throttled);
+}
+
+// All callers are throttled, a millisecond apart. Then each asks in every round, of which one begins
+// a tenth of a second behind the other, and each that was granted a request succeeds.
+fn print_recovery<L: Limiter + Debug>(rt: HostRuntime, mut limiter: L) -> Result<()> {
+    let mut now = answered(&mut limiter, 0, CALLERS, true);
+    let mut total: u64 = 0;
+    for _ in 0..ROUNDS {
+        now = now.saturating_add(100 * MILLISECOND);
+        let granted = granted_at(&mut limiter, now);
+        now = answered(&mut limiter, now, granted, false);
+        total = total.saturating_add(granted);
+    }
+    println!(rt; "  {total} requests in {ROUNDS} rounds: {limiter:?}")?;
+    Ok(())
+}
+
+// So many responses, a millisecond apart, and the moment of the last.
+fn answered<L: Limiter>(limiter: &mut L, mut now: u64, count: u64, throttled: bool) -> u64 {
+    for _ in 0..count {
+        now = now.saturating_add(MILLISECOND);
+        tell_at(limiter, now, throttled);
+    }
+    now
+}
+
+// How many callers are granted a request, of which one asks a tenth of a millisecond behind another.
+fn granted_at<L: Limiter>(limiter: &mut L, now: u64) -> u64 {
+    let mut granted: u64 = 0;
+    for caller in 0..CALLERS {
+        if is_granted(limiter, now.saturating_add(caller.saturating_mul(100_000))) {
+            granted = granted.saturating_add(1);
+        }
+    }
+    granted
+}
+
+fn is_granted<L: Limiter>(limiter: &mut L, now: u64) -> bool {
+    limiter.acquire(now, RequestReason::InitialRequest).is_ok()
 }

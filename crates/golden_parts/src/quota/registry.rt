@@ -10,7 +10,7 @@ mod lines;
 mod names;
 mod openings;
 mod partitions;
-mod registers;
+pub mod registers;
 mod tables;
 mod threads;
 

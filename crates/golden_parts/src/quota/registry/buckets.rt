@@ -172,6 +172,22 @@ const ONE_RETRY: BucketTerms = BucketTerms {
     refill_rate: 0,
 };
 
+/// A hundred tokens, all of which a retry of a transient failure costs.
+const HUNDRED: BucketTerms = BucketTerms {
+    capacity: 100,
+    retry_cost: 5,
+    throttling_retry_cost: 5,
+    timeout_retry_cost: 100,
+    success_reward: 0,
+    refill_rate: 0,
+};
+
+/// All tokens of such a bucket are spent.
+const SPENT: Step = Step::Acquire(ErrorKind::TransientError, 0);
+
+/// All tokens are spent, and then a success is rewarded.
+const REWARDED: &[Step] = &[SPENT, Step::Reward, Step::IsFull];
+
 const ROWS: &[Row] = &[
     Row {
         name: "a transient failure costs more than throttling",
@@ -268,13 +284,122 @@ const ROWS: &[Row] = &[
             Step::Acquire(ErrorKind::ServerError, 2),
         ],
     },
+    Row {
+        name: "ten tokens are two grants of five, and then none",
+        opening: Opening::Quota(10),
+        steps: &[
+            Step::Acquire(ErrorKind::ThrottlingError, 0),
+            Step::Acquire(ErrorKind::ThrottlingError, 0),
+            Step::Acquire(ErrorKind::ThrottlingError, 0),
+        ],
+    },
+    Row {
+        name: "rewards and seconds count together",
+        opening: Opening::Terms(BucketTerms {
+            success_reward: 500,
+            refill_rate: 1000,
+            ..HUNDRED
+        }),
+        steps: &[
+            SPENT,
+            Step::Reward,
+            Step::Reward,
+            Step::Acquire(ErrorKind::TransientError, 2),
+        ],
+    },
+    Row {
+        name: "a bucket is full by rewards alone",
+        opening: Opening::Terms(BucketTerms {
+            capacity: 2,
+            retry_cost: 1,
+            success_reward: 900,
+            ..TEN
+        }),
+        steps: &[
+            Step::Acquire(ErrorKind::ServerError, 0),
+            Step::Acquire(ErrorKind::ServerError, 0),
+            Step::IsEmpty,
+            Step::Reward,
+            Step::Reward,
+            Step::Reward,
+            Step::IsFull,
+            Step::IsEmpty,
+        ],
+    },
+    Row {
+        name: "half a token is none, and two halves are one",
+        opening: Opening::Terms(BucketTerms {
+            success_reward: 500,
+            ..ONE_RETRY
+        }),
+        steps: &[
+            Step::Acquire(ErrorKind::ServerError, 0),
+            Step::Reward,
+            Step::IsEmpty,
+            Step::Reward,
+            Step::IsEmpty,
+        ],
+    },
+    Row {
+        name: "neither rewards nor seconds pass the capacity",
+        opening: Opening::Terms(BucketTerms {
+            timeout_retry_cost: 11,
+            success_reward: 2000,
+            refill_rate: 50_000,
+            ..TEN
+        }),
+        steps: &[
+            Step::Acquire(ErrorKind::ServerError, 0),
+            Step::Reward,
+            Step::Reward,
+            Step::Reward,
+            Step::Reward,
+            Step::Reward,
+            Step::Reward,
+            Step::Acquire(ErrorKind::TransientError, 100),
+        ],
+    },
 ];
 
-/// Prints each row's steps with what they answer and the bucket behind them.
+/// Rewards in thousandths of a token, one of which an empty bucket gets.
+const REWARDS: &[u64] = &[700, 1000, 2300, 5800, 10_000];
+
+/// What comes into an empty bucket each second, in thousandths of a token, and the second of the
+/// next acquire.
+const REFILLS: &[(u64, u64)] = &[(1000, 5), (10_000, 2), (1, 1100), (1, 1200), (1, 500)];
+
+/// Prints each row's steps with what they answer and the bucket behind them, and then what a reward
+/// and a time make of an empty bucket.
 pub fn print(rt: &HostRuntime) -> Result<()> {
     for row in ROWS {
         println!(rt; "{}", row.name)?;
         print_steps(rt, Worked::open(row.opening)?, row.steps)?;
+    }
+    print_rewards(rt)?;
+    print_refills(rt)
+}
+
+fn print_rewards(rt: &HostRuntime) -> Result<()> {
+    println!(rt; "a fraction gives its whole tokens at the next look")?;
+    for reward in REWARDS {
+        let terms = BucketTerms {
+            success_reward: *reward,
+            ..TEN
+        };
+        print_steps(rt, Worked::open(Opening::Terms(terms))?, REWARDED)?;
+    }
+    Ok(())
+}
+
+fn print_refills(rt: &HostRuntime) -> Result<()> {
+    println!(rt; "seconds refill an empty bucket at its rate")?;
+    for (rate, second) in REFILLS {
+        let terms = BucketTerms {
+            refill_rate: *rate,
+            ..HUNDRED
+        };
+        let steps = [SPENT, Step::Acquire(ErrorKind::TransientError, *second)];
+        print_steps(rt, Worked::open(Opening::Terms(terms))?, &steps)?;
     }
     Ok(())
 }

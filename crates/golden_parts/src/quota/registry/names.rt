@@ -23,6 +23,16 @@ pub fn custom_partition<R: PartitionRegistry>(
     built.map_err(|refused| refused.1)
 }
 
+/// A custom partition of this name, which brings nothing.
+pub fn custom_named<R: PartitionRegistry>(
+    registry: &mut R,
+    alloc: Global,
+    name: &'static str,
+) -> Result<RetryPartition, OutOfMemory> {
+    let built = RetryPartition::custom(Text::from_static(name)).build(alloc, registry);
+    built.map_err(|refused| refused.1)
+}
+
 fn bringing_nothing() -> RetryPartitionBuilder {
     RetryPartition::custom(Text::from_static("test"))
 }

@@ -1,5 +1,5 @@
 //! Which partitions are equal.
-use crate::quota::registry::names::{custom_partition, default_partition};
+use crate::quota::registry::names::{custom_named, custom_partition, default_partition};
 use crate::quota::registry::registers::two_buckets;
 use anyhow::Result;
 use retry_quota::RetryPartition;
@@ -30,6 +30,11 @@ fn custom(alloc: Global, bucket: Option<u32>) -> Result<RetryPartition, OutOfMem
     custom_partition(&mut two_buckets(alloc)?, alloc, bucket)
 }
 
+// A custom partition of this name.
+fn named(alloc: Global, name: &'static str) -> Result<RetryPartition, OutOfMemory> {
+    custom_named(&mut two_buckets(alloc)?, alloc, name)
+}
+
 fn copied(partition: &RetryPartition) -> Result<RetryPartition, AllocError> {
     partition.clone()
 }
@@ -56,5 +61,7 @@ fn print_customs(rt: &HostRuntime, test: &RetryPartition) -> Result<()> {
 // Compares a custom partition with one that brings its numbers.
 fn print_brought(rt: &HostRuntime, first: &RetryPartition) -> Result<()> {
     let second = custom(rt.alloc(), Some(5))?;
-    print_compared(rt, "two custom ones named test", first, &second)
+    print_compared(rt, "two custom ones named test", first, &second)?;
+    let other = named(rt.alloc(), "other")?;
+    print_compared(rt, "custom ones named test and other", first, &other)
 }

@@ -82,13 +82,15 @@ fn acquire_and_forget<Q: Quota>(quota: &mut Q, bucket: u32) {
     }
 }
 
-fn reward<Q: Quota>(quota: &mut Q, bucket: u32) {
+/// Counts a success, where the bucket is there.
+pub fn reward<Q: Quota>(quota: &mut Q, bucket: u32) {
     if quota.has(bucket) {
         quota.reward_success(bucket);
     }
 }
 
-fn regenerate<Q: Quota>(quota: &mut Q, bucket: u32) {
+/// Gives a token back, where the bucket is there.
+pub fn regenerate<Q: Quota>(quota: &mut Q, bucket: u32) {
     if quota.has(bucket) {
         quota.regenerate_a_token(bucket);
     }
@@ -209,10 +211,12 @@ fn settle_foreign<Q: Quota<Permit = Permit>>(
     print_sums(rt, "forgotten", quota, 1)
 }
 
-fn release<Q: Quota>(quota: &mut Q, permit: Q::Permit) {
+/// Gives a permit back.
+pub fn release<Q: Quota>(quota: &mut Q, permit: Q::Permit) {
     quota.release(permit);
 }
 
-fn forget<Q: Quota>(quota: &mut Q, permit: Q::Permit) {
+/// Gives a permit up.
+pub fn forget<Q: Quota>(quota: &mut Q, permit: Q::Permit) {
     quota.forget(permit);
 }

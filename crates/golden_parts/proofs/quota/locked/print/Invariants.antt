@@ -8,3 +8,6 @@ ghosts-print_paid g a = record { name = a.blank.name; parts = a.blank.parts }
 
 abbrev pub ghosts-print_earned : goal.ghosts-print_earned
 ghosts-print_earned g a = record { name = a.blank.name; parts = a.blank.parts }
+
+abbrev pub ghosts-print_called : goal.ghosts-print_called
+ghosts-print_called g a = record { name = a.blank.name; parts = a.blank.parts }

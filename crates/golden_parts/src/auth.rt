@@ -2,7 +2,6 @@
 //! lists, endpoints that set headers, requests that have a query or headers before they are signed,
 //! and what boxes and plugins of auth do.
 
-use crate::messages::texts;
 use anyhow::Result;
 use auth_endpoint::{
     AuthScheme, AuthSchemeAndEndpointOrchestrationV2, EndpointError, NoAuthRuntimePlugin,
@@ -290,6 +289,25 @@ fn print_sent(rt: &HostRuntime) -> Result<()> {
     Ok(())
 }
 
+// A request that is sent to an endpoint with a prefix.
+fn print_prefixed(rt: &HostRuntime) -> Result<()> {
+    let text = String::from_utf8(prefixed(rt.alloc(), "/foo?bar=1", "https://s3.amazon.com")?)?;
+    println!(rt; "with a prefix: {text}")?;
+    Ok(())
+}
+
+fn prefixed(alloc: Global, uri: &'static str, url: &'static str) -> Result<Vec<u8>, OutOfMemory> {
+    let endpoint = endpoint(alloc, url, "x", &["1"])?;
+    let mut request = get_request(uri);
+    let applied = apply_endpoint_to_request(
+        alloc,
+        &mut request,
+        &endpoint,
+        Some("prefix.subdomain."),
+    );
+    listed(alloc, &request, applied)
+}
+
 // The endpoint of a static resolver, and the setting of its parameters.
 fn print_resolved(rt: &HostRuntime) -> Result<()> {
     let local = StaticUriEndpointResolver::http_localhost(rt.alloc(), 1234)?;
@@ -512,10 +530,20 @@ fn print_plugins(rt: &HostRuntime) -> Result<()> {
     Ok(())
 }
 
+// The list of these texts.
+fn texts(alloc: Global, values: &[&'static str]) -> Result<List<Text>, OutOfMemory> {
+    let mut list = List::new();
+    for value in values {
+        list.push(alloc, Text::from_static(*value))?;
+    }
+    Ok(list)
+}
+
 /// Prints choices, endpoints, plugins, boxes and signed requests.
 pub fn print(rt: &HostRuntime) -> Result<()> {
     print_choices(rt)?;
     print_sent(rt)?;
+    print_prefixed(rt)?;
     print_resolved(rt)?;
     print_plugins(rt)?;
     print_boxed(rt)?;
