@@ -1,11 +1,11 @@
 #!/usr/bin/env python3
 """Refuses each request for memory of a run in turn, one a run, for an example of each command. Each
 such run must end with status 5 and nothing written, or with the status and the text that the run has
-with ample memory. So it does for the program of rows of kept identities, each of whose runs must end
+with ample memory. So it does for the rows of kept identities, each of whose runs must end
 as with ample memory, or with a failure behind a front of its print. Prints a line for each example:
 the requests, and how many runs ended so and so.
 
-It wants the proved programs (./smithy_replay --prove; rt run in crates/golden_identity) and gcc.
+It wants the proved programs (./smithy_replay --prove; rt run in crates/golden_parts) and gcc.
 """
 import pathlib
 import subprocess
@@ -14,7 +14,7 @@ import tempfile
 
 TOP = pathlib.Path(__file__).resolve().parent.parent
 PROGRAM = TOP / "crates/smithy_replay/out/smithy_replay"
-ROWS = TOP / "crates/golden_identity/out/golden_identity"
+ROWS = TOP / "crates/golden_parts/out/golden_parts"
 NO_MEMORY = 5
 EXAMPLES = [
     (["replay"], "examples/teapot.json"),
@@ -89,7 +89,7 @@ def main():
         for words, script in EXAMPLES:
             text = (TOP / script).read_bytes() if script else b""
             ends.append(tried(refusing, [PROGRAM, *words], text, without_memory))
-        ends.append(tried(refusing, [ROWS], b"", stopped_short))
+        ends.append(tried(refusing, [ROWS, "identities"], b"", stopped_short))
         return not all(ends)
 
 
