@@ -6,6 +6,7 @@ the script is taken where its kind is asked next, and every other question has a
 import json
 from typing import Any, Dict, List
 
+from .support import answer_rows
 from .support.direct import run
 from .support.engine_rows import CUTS, CUTS_WITH_ATTEMPT_DEADLINE, ROWS, Row
 from .support.program import EXAMPLES, ProgramTest, Ran
@@ -41,14 +42,21 @@ def begin_of(script: Script) -> List[Any]:
     return ["begin", script["input"], stop, *kinds, script["fuel"]]
 
 
+def request_behind(kind: str, answer: Any, before: Any) -> Any:
+    """The request that is to be sent behind an answer: as it was signed, or as a hook changed it."""
+    if kind == "Sign" and answer[0] == "Request":
+        return answer[1]
+    change = answer[1] if answer[0] == "Hook" else None
+    return change[1] if change and change[0] == "Request" else before
+
+
 def entries_of(row: Row) -> Lines:
-    """The lines of the row's questions: a request is sent as it was signed last."""
+    """The lines of the row's questions: a request is sent as it was signed, or changed, last."""
     left, signed, entries = list(row.script), None, []
     for number, kind in enumerate(row.kinds, start=1):
         is_scripted = bool(left) and left[0][0] == kind
         answer = left.pop(0)[1] if is_scripted else OWN_ANSWERS.get(kind.split()[0], "Absent")
-        if kind == "Sign":
-            signed = answer[1]
+        signed = request_behind(kind, answer, signed)
         was_sent = kind == "Transmit" and answer != "Pending"
         entries.append([number, kind, answer, signed] if was_sent else [number, kind, answer])
     return entries
@@ -77,6 +85,9 @@ class EngineRunTest(ProgramTest):
 
     def test_each_row_asks_its_kinds_and_ends_with_its_answer(self):
         self.assert_rows(ROWS)
+
+    def test_each_answer_and_each_change_comes_once(self):
+        self.assert_rows(answer_rows.ROWS)
 
     def test_the_operations_deadline_gives_up_what_is_pending(self):
         self.assert_rows(CUTS)

@@ -1,5 +1,6 @@
-//! Prints what the engine answers over a script of retries and over short runs, the texts of its
-//! errors, and the tables of its grammar, to be compared with a print that was made without it.
+//! Prints what the engine answers over a script of retries and over short runs, what rewinds come
+//! to, the texts of its errors, and the tables of its grammar, to be compared with a print that was
+//! made without it.
 //!
 //! The words are the number of delays and the fuel of the runs that are measured (`cost`).
 #![tactic(auto)]
@@ -7,6 +8,7 @@
 mod cost;
 mod crossing;
 mod grammar;
+mod rewinds;
 mod short;
 mod texts;
 
@@ -15,6 +17,7 @@ use anyhow::Result;
 fn main(rt: HostRuntime) -> Result<()> {
     cost::print(rt)?;
     short::print(rt)?;
+    rewinds::print(&rt)?;
     texts::print(&rt)?;
     grammar::print(rt)
 }
