@@ -6,7 +6,7 @@ use body_guard::{ContentLengthEnforcingBody, NoBody, Polled, extract_content_len
 use http_header::{HeaderMap, HeaderValue};
 use smithy_types::{Blob, Body, BuildError, Headers, HttpResponse, OutOfMemory};
 use std::alloc::Global;
-use stream_guard::{Throughput, ThroughputLogs, ThroughputReport};
+use stream_guard::{BinLabel, Throughput, ThroughputLogs, ThroughputReport};
 
 /// A millisecond, in nanoseconds.
 const MILLISECOND: u64 = 1_000_000;
@@ -92,6 +92,69 @@ const LOGS: &[Logged] = &[
         came: &[Came::Pending(0)],
         reports: 1899,
     },
+    Logged {
+        name: "nothing, at its start",
+        start: 0,
+        came: &[],
+        reports: 0,
+    },
+    Logged {
+        name: "a pending poll, and less than a second",
+        start: 0,
+        came: &[Came::Pending(0)],
+        reports: 300,
+    },
+    Logged {
+        name: "pending polls where each bin begins",
+        start: 0,
+        came: &[
+            Came::Pending(0),
+            Came::Pending(100),
+            Came::Pending(200),
+            Came::Pending(300),
+            Came::Pending(400),
+            Came::Pending(500),
+            Came::Pending(600),
+            Came::Pending(700),
+            Came::Pending(800),
+            Came::Pending(900),
+        ],
+        reports: 1000,
+    },
+    Logged {
+        name: "pending polls where each bin ends",
+        start: 0,
+        came: &[
+            Came::Pending(100),
+            Came::Pending(200),
+            Came::Pending(300),
+            Came::Pending(400),
+            Came::Pending(500),
+            Came::Pending(600),
+            Came::Pending(700),
+            Came::Pending(800),
+            Came::Pending(900),
+            Came::Pending(1000),
+        ],
+        reports: 1000,
+    },
+    Logged {
+        name: "transfers where each bin begins",
+        start: 0,
+        came: &[
+            Came::Bytes(0),
+            Came::Bytes(100),
+            Came::Bytes(200),
+            Came::Bytes(300),
+            Came::Bytes(400),
+            Came::Bytes(500),
+            Came::Bytes(600),
+            Came::Bytes(700),
+            Came::Bytes(800),
+            Came::Bytes(900),
+        ],
+        reports: 900,
+    },
 ];
 
 /// Rates, by bytes and nanoseconds.
@@ -119,6 +182,7 @@ pub fn print(rt: &HostRuntime) -> Result<()> {
         println!(rt; "a log, {}: {report}", row.name)?;
     }
     println!(rt; "a log of 9 ns: {:?}", log(9, 0).err())?;
+    print_labels(rt)?;
     print_rates(rt)?;
     print_lengths(rt)?;
     print_ends(rt)
@@ -158,10 +222,25 @@ fn report(log: &mut ThroughputLogs, now: u64) -> ThroughputReport {
     log.report(now)
 }
 
+// Which of two labels a bin has.
+fn print_labels(rt: &HostRuntime) -> Result<()> {
+    let pending = BinLabel::NoPolling.higher(BinLabel::Pending);
+    let transferred = BinLabel::Pending.higher(BinLabel::TransferredBytes);
+    println!(rt;
+        "a pending poll goes before none: {}, and bytes go before it: {}",
+        pending.is_pending(),
+        transferred.is_transferred()
+    )?;
+    Ok(())
+}
+
 fn print_rates(rt: &HostRuntime) -> Result<()> {
     for (bytes, nanos) in RATES {
         println!(rt; "{bytes} bytes in {nanos} ns: {}", rate(*bytes, *nanos))?;
     }
+    let first = rate(1, SECOND);
+    let equal = first == rate(25, 25 * SECOND) && first == rate(100, 100 * SECOND);
+    println!(rt; "1, 25 and 100 bytes in as many seconds are equal: {equal}")?;
     Ok(())
 }
 

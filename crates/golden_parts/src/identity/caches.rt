@@ -13,18 +13,22 @@ enum Step {
     Look(&'static str, u64),
     /// The load of a ticket of `key` is opened, as one that was asked for now.
     Open(u64, u64),
+    /// The same of another scheme.
+    OpenOf(&'static str, u64, u64),
     /// The open load's sleep is asked.
     Wait(u64),
     /// The open load gave an identity with this expiration in nanoseconds, and this is the random
     /// word.
     Keep(Option<u64>, u64),
+    /// The open load gave this token, which expires at 10,000 s.
+    KeepAs(&'static str),
     /// The open load failed.
     Fail,
     /// The open load is given up.
     Abandon,
 }
 
-use Step::{Abandon, Fail, Keep, Look, Open, Wait};
+use Step::{Abandon, Fail, Keep, KeepAs, Look, Open, OpenOf, Wait};
 
 /// A cache of so many schemes, whose loads may take so long, and what is asked of it.
 struct Row {
@@ -104,6 +108,58 @@ const ROWS: &[Row] = &[
         sleeps: false,
         steps: &[Look("key", 2), Open(0, 2), Wait(1000), Look("key", 1000)],
     },
+    Row {
+        name: "three identities in turn",
+        load_timeout: Some(1_000_000_000),
+        max_partitions: 64,
+        sleeps: true,
+        steps: &[
+            Look("key", 100),
+            Open(0, 100),
+            Keep(Some(1_000_000_000_000), 0),
+            Look("key", 100),
+            Look("key", 1500),
+            Open(1, 1500),
+            Keep(Some(2_000_000_000_000), 0),
+            Look("key", 1500),
+            Look("key", 2500),
+            Open(2, 2500),
+            Keep(Some(3_000_000_000_000), 0),
+            Look("key", 2500),
+        ],
+    },
+    Row {
+        name: "a load that fails behind a value that has expired",
+        load_timeout: Some(1_000_000_000),
+        max_partitions: 64,
+        sleeps: true,
+        steps: &[
+            Look("key", 100),
+            Open(0, 100),
+            Keep(Some(1_000_000_000_000), 0),
+            Look("key", 1500),
+            Open(1, 1500),
+            Fail,
+            Look("key", 1500),
+        ],
+    },
+    Row {
+        name: "two schemes, each with its own",
+        load_timeout: Some(1_000_000_000),
+        max_partitions: 64,
+        sleeps: true,
+        steps: &[
+            Look("a", 0),
+            OpenOf("a", 0, 0),
+            KeepAs("A"),
+            Look("a", 0),
+            Look("b", 0),
+            OpenOf("b", 0, 0),
+            KeepAs("B"),
+            Look("b", 0),
+            Look("a", 0),
+        ],
+    },
 ];
 
 fn terms(row: &Row) -> Result<LazyCacheTerms> {
@@ -122,11 +178,16 @@ fn answer(
     let alloc = rt.alloc();
     match step {
         Step::Look(id, second) => client.look(alloc, id, second),
-        Step::Open(ticket, second) => client.open(alloc, settings, ticket, second),
+        Step::Open(ticket, second) => client.open(alloc, settings, "key", ticket, second),
+        Step::OpenOf(id, ticket, second) => client.open(alloc, settings, id, ticket, second),
         Step::Wait(second) => client.wait(alloc, second),
         Step::Keep(expiration, word) => {
             let identity = identity(alloc, b"abc", expiration)?;
             client.keep(alloc, identity, word)
+        }
+        Step::KeepAs(token) => {
+            let identity = identity(alloc, token.as_bytes(), Some(10_000_000_000_000))?;
+            client.keep(alloc, identity, 0)
         }
         Step::Fail => client.fail(alloc),
         Step::Abandon => client.abandon(alloc),

@@ -8,7 +8,7 @@ use smithy_context::Settings;
 use smithy_types::{Blob, Identity, OutOfMemory, Text, Timers};
 use std::alloc::Global;
 
-/// A cache, its timers, and the open load of the scheme `key`.
+/// A cache, its timers, and the open load.
 #[derive(Drop)]
 pub struct Client {
     pub cache: LazyCache,
@@ -36,11 +36,12 @@ impl Client {
         }
     }
 
-    /// Opens the load of a ticket that was asked for at a second.
+    /// Opens the load of a scheme's ticket that was asked for at a second.
     pub fn open(
         &mut self,
         alloc: Global,
         settings: &Settings,
+        id: &'static str,
         ticket: u64,
         second: u64,
     ) -> Result<String> {
@@ -50,6 +51,7 @@ impl Client {
             alloc,
             &mut self.sleeper,
             settings,
+            id,
             ticket,
             second,
         )?;
@@ -132,10 +134,11 @@ fn opened<T: Timers>(
     alloc: Global,
     timers: &mut T,
     settings: &Settings,
+    id: &'static str,
     ticket: u64,
     second: u64,
 ) -> Result<IdentityLoad, OutOfMemory> {
-    let id = SchemeId::new(Text::from_static("key"));
+    let id = SchemeId::new(Text::from_static(id));
     cache.open(alloc, timers, id, ticket, seconds(second), settings)
 }
 
