@@ -50,6 +50,18 @@ const THROTTLED: &[Responses] = &[
     (12_000, false, MANY),
 ];
 
+/// A throttle at ten requests a second, and nothing of the kind behind it.
+const GROWN: &[Responses] = &[
+    (5000, true, 1),
+    (5000, false, MANY),
+    (6000, false, MANY),
+    (7000, false, MANY),
+    (8000, false, MANY),
+    (9000, false, MANY),
+    (10_000, false, MANY),
+    (11_000, false, MANY),
+];
+
 /// A request, by its moment in milliseconds.
 type Request = (u64, RequestReason);
 
@@ -77,6 +89,8 @@ pub fn print(rt: HostRuntime) -> Result<()> {
     print_responses(rt, measuring(0), FOLLOWED)?;
     println!(rt; "a rate falls with each throttle, and grows with the cube of time")?;
     print_responses(rt, measuring(49_200_000), THROTTLED)?;
+    println!(rt; "a rate grows with the cube of time where nothing is throttled")?;
+    print_responses(rt, measuring(49_200_000), GROWN)?;
     println!(rt; "a limiter refuses nothing before a throttle")?;
     print_requests(rt, measuring(0), AT_ONCE)?;
     println!(rt; "a throttled one grants once it is filled, and its refusals take nothing")?;
