@@ -59,7 +59,7 @@ use Rattle.json_values.specs.Values.{action_data, answer_data, body_data, change
 -- ---- rows, lists and values that may be absent
 
 -- Data of this shape nests at most so deep.
-abbrev Nests : {X : Type 0} → ℕ → (X → Data) → Type 0
+abbrev pub Nests : {X : Type 0} → ℕ → (X → Data) → Type 0
 Nests {X} n f = (x : X) → depth (f x) ≤ n
 
 items_nest : {X : Type 0} (n : ℕ) (f : X → Data) → Nests n f → (xs : List X) → items_depth (items_of (map f xs)) ≤ n
@@ -220,13 +220,13 @@ layer_entry_nests : Nests 3 layer_entry_data
 unfolding layer_entry_data
 layer_entry_nests e = let v = optional_nests 2 value_data value_nests e.value in omega arith
 
-layer_nests : Nests 4 layer_data
+pub layer_nests : Nests 4 layer_data
 unfolding layer_data
 layer_nests l = each_nests 3 layer_entry_data layer_entry_nests l
 
 -- ---- answers of hooks, and notes
 
-hook_answer_nests : Nests 6 hook_answer_data
+pub hook_answer_nests : Nests 6 hook_answer_data
 unfolding hook_answer_data
 hook_answer_nests a =
     let c = optional_nests 5 change_data change_nests a.change in

@@ -7,6 +7,7 @@ use Rattle.std.proofs.lemmas.Str.{IsUtf8-append}
 use Rattle.std.specs.List.{list_all}
 use Rattle.std.specs.Str.{IsUtf8}
 use Rattle.json_forms.proofs.Stored.{carried_when_read}
+use Rattle.json_forms.specs.Carried.{is_carried}
 use Rattle.json_forms.specs.Lines.{are_readable, is_readable}
 use Rattle.json_forms.specs.JsonData.{data_of}
 use Rattle.json_forms.specs.declared.printing.Json.{Json}
@@ -24,6 +25,10 @@ use lib.Utf8.{encode}
 
 pub line_readable : (j : Json) → (depth (data_of j) ≤ max_depth → read (compact_text (data_of j)) ≡ Some (data_of j)) → depth (data_of j) ≤ max_depth → is_readable (data_of j) ≡ true
 line_readable j back shallow = and_from _ _ (carried_when_read (compact_text (data_of j)) (data_of j) (back shallow) j.no_float) (le-leb _ _ shallow)
+
+-- what is carried and nests at most so deep is readable
+pub carried_readable : (d : Data) (n : ℕ) → is_carried d ≡ true → depth d ≤ n → n ≤ max_depth → is_readable d ≡ true
+carried_readable d n carried shallow below = and_from _ _ carried (le-leb _ _ (omega arith))
 
 feed_of_characters : IsUtf8 (10 ∷ [])
 unfolding encode

@@ -20,7 +20,7 @@ use crate::parts::{
 use json_values::answer::print_hook_answer;
 use json_values::setting::print_layer;
 use run_grammar::{Answer, Chosen};
-use smithy_context::{HookReply, Layer};
+use smithy_context::{HookAnswer, HookReply, Layer};
 use smithy_types::{
     Choice, ChooseNote, ConnectorKind, DecideNote, Endpoint, HttpRequest, HttpResponse,
     OutOfMemory, Outcome, Reason, RetryAction, Shared, Sums, Text,
@@ -113,12 +113,22 @@ fn write_hook_reply(alloc: Global, reply: &HookReply, out: &mut Vec<u8>) -> Resu
     ensures { OnOk result (IsWritten (hook_answer_data reply.now) out.old.items out.new.items) }
 {
     match reply.did() {
-        Some(answer) => {
-            let json = print_hook_answer(alloc, answer)?;
-            write_json(alloc, &json, out)
-        }
+        Some(answer) => write_hook_answer(alloc, answer, out),
         None => write_word("Done", out),
     }
+}
+
+// What a hook did.
+fn write_hook_answer(
+    alloc: Global,
+    answer: &HookAnswer,
+    out: &mut Vec<u8>,
+) -> Result<(), OutOfMemory>
+    ensures { OnOk result (IsWritten (hook_answer_data answer.now) out.old.items out.new.items) }
+{
+    let json = print_hook_answer(alloc, answer)?;
+    write_json(alloc, &json, out)?;
+    Ok(())
 }
 
 // The request, made or rewritten.

@@ -7,7 +7,7 @@ ghost use Rattle.json.specs.Print.{escape, escape_byte, quoted};
 ghost use Rattle.json.specs.Run.{is_plain};
 ghost use Rattle.json_forms.specs.JsonData.{data_of};
 ghost use Rattle.json_forms.specs.Prints.{row, num, null_or, texts, is_shown, blob_data};
-ghost use Rattle.json_print.specs.Written.{IsWritten};
+ghost use Rattle.json_print.specs.Written.{IsTagged, IsWritten};
 ghost use Rattle.serde_json.specs.Data.{null, string, depth};
 ghost use Rattle.serde_json.specs.Read.{max_depth};
 ghost use Rattle.serde_json.specs.Written.{comma_if};
@@ -71,7 +71,7 @@ pub(crate) fn write_word(word: &str, out: &mut Vec<u8>) -> Result<(), OutOfMemor
 /// The beginning of an array: its first item, which is this word, and the comma behind it.
 pub(crate) fn begin_tagged(word: &str, out: &mut Vec<u8>) -> Result<(), OutOfMemory>
     requires { escape word.now ≡ word.now }
-    ensures { OnOk result (out.new.items ≡ out.old.items ++ 91 ∷ (quoted word.now ++ 44 ∷ [])) }
+    ensures { OnOk result (IsTagged word.now out.old.items out.new.items) }
 {
     out.extend_from_slice(b"[\"")?;
     out.extend_from_slice(word.as_bytes())?;

@@ -45,10 +45,12 @@ fn write_headers(alloc: Global, headers: &Headers, out: &mut Vec<u8>) -> Result<
     ensures { OnOk result (IsWritten (headers_data headers.now) out.old.items out.new.items) }
 {
     match headers.as_map() {
-        Some(map) => write_header_map(alloc, map, out)?,
-        None => out.extend_from_slice(b"[]")?,
+        Some(map) => write_header_map(alloc, map, out),
+        None => {
+            out.extend_from_slice(b"[]")?;
+            Ok(())
+        }
     }
-    Ok(())
 }
 
 // The headers of a map.

@@ -1,0 +1,8 @@
+use Rattle.json_values.specs.Values.{endpoint_data}
+use Rattle.json_print.proofs.RowText.{begun_end, begun_first, begun_more}
+use Rattle.json_print.proofs.parts.write_endpoint.Goals as goal
+
+pub returns : goal.returns
+unfolding endpoint_data
+returns c =
+    begun_end (begun_more (begun_more (begun_first c.in_ok-push.ensures.items (rw c.as_str.ensures at c.in_ok-write_text.ensures)) c.in_ok-push-2.ensures.items (rw c.as_slice.ensures at c.in_ok-write_endpoint_headers.ensures)) c.in_ok-push-3.ensures.items c.in_ok-write_optional_texts.ensures) c.in_ok-push-4.ensures.items

@@ -1,0 +1,8 @@
+use Rattle.json_values.specs.Values.{response_data}
+use Rattle.json_print.proofs.RowText.{begun_end, begun_first, begun_more}
+use Rattle.json_print.proofs.parts.write_response.Goals as goal
+
+pub returns : goal.returns
+unfolding response_data
+returns c =
+    begun_end (begun_more (begun_more (begun_first c.in_ok-push.ensures.items c.in_ok-write_number.ensures) c.in_ok-push-2.ensures.items c.in_ok-write_headers.ensures) c.in_ok-push-3.ensures.items c.in_ok-write_body.ensures) c.in_ok-push-4.ensures.items
