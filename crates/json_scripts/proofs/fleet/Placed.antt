@@ -69,11 +69,11 @@ unfolding client_at Holds
 client_placed buckets d =
     past _ (members_at (client_members d) d) _ (λ _.
     step (RulesHaveBucket buckets) _ (rules_at buckets d) _ (rules_placed buckets d) (λ r hr.
-    past _ (target_at d) _ (λ t.
     past _ (get (codes "classifiers") d >>= classifiers_at) _ (λ cs.
     past _ (get (codes "auth") d) _ (λ a.
     past _ (http_schemes_of (get (codes "http_schemes") d)) _ (λ hs.
-    past _ (auth_at hs a) _ (λ auth. hr)))))))
+    past _ (auth_at hs a) _ (λ auth.
+    past _ (target_at d) _ (λ t. hr)))))))
 
 -- ---- invocations
 

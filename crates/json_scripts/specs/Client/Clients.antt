@@ -39,8 +39,8 @@ client_members d = if is_some (get (codes "http_schemes") d) then 16 else 15
 
 -- a client object of a script with so many buckets: its members and no others, each of its form, and a bucket that there is
 unfoldable pub client_at : ℕ → Data → Option ClientObject
-client_at buckets d = members_at (client_members d) d >>= λ _. rules_at buckets d >>= λ r. target_at d >>= λ t. get (codes "classifiers") d >>= classifiers_at >>= λ cs.
-    get (codes "auth") d >>= λ a. http_schemes_of (get (codes "http_schemes") d) >>= λ hs. auth_at hs a >>= λ auth.
+client_at buckets d = members_at (client_members d) d >>= λ _. rules_at buckets d >>= λ r. get (codes "classifiers") d >>= classifiers_at >>= λ cs.
+    get (codes "auth") d >>= λ a. http_schemes_of (get (codes "http_schemes") d) >>= λ hs. auth_at hs a >>= λ auth. target_at d >>= λ t.
     Some (record { target = t; rules = r; classifiers = cs; auth = auth })
 
 unfoldable pub clients_at : ℕ → Data → Option (List ClientObject)

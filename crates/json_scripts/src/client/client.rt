@@ -112,11 +112,11 @@ pub fn read_client(alloc: Global, buckets: usize, value: &Value) -> Result<Clien
 {
     exact_members(alloc, client_members(value), value)?;
     let rules = read_rules(buckets, value)?;
-    let target = read_target(alloc, value)?;
     let classifiers = read_classifiers(alloc, read::member(value, "classifiers")?)?;
     let auth = read::member(value, "auth")?;
     let http_schemes = read_http_schemes(alloc, read::optional_member(value, "http_schemes"))?;
     let auth = read_auth(alloc, http_schemes, auth)?;
+    let target = read_target(alloc, value)?;
     Ok(ClientObject {
         target,
         rules,

@@ -244,11 +244,11 @@ unfolding client_at Holds
 client_object buckets ms =
     step _ _ (members_at (client_members (object ms)) (object ms)) _ (counted (client_members (object ms)) ms) (λ _ count.
     step _ _ (rules_at buckets (object ms)) _ (rules_found buckets ms) (λ _ r.
-    step _ _ (target_at (object ms)) _ (target_found ms) (λ _ t.
     step _ _ (get_member (codes "classifiers") ms >>= classifiers_at) _ (member_found classifiers_at classifiers_plain (codes "classifiers") ms) (λ _ c.
     step_at _ (get_member (codes "auth") ms) _ (λ a here.
     step _ _ (http_schemes_of (get_member (codes "http_schemes") ms)) _ (schemes_member (get_member (codes "http_schemes") ms)) (λ https hs.
     part (auth_at https) (auth_plain https) a _ _ (λ plain _.
+    step _ _ (target_at (object ms)) _ (target_found ms) (λ _ t.
     with_schemes (get_member (codes "http_schemes") ms) ms refl count hs (all_found ms r t c (a, here, plain)))))))))
 
 pub client_plain : (buckets : ℕ) → Refuses (client_at buckets)
