@@ -11,7 +11,7 @@ ghost use Rattle.cli_replay.specs.Script.Limits.{layer_keys, with_key, with_keys
 
 use json_scripts::{head_fits, optional_text_fits, optional_texts_fit, text_fits, texts_fit};
 use run_grammar::{Answer, Chosen};
-use smithy_context::{Change, HookAnswer, Layer, LayerEntry, Setting, SettingKey};
+use smithy_context::{Change, HookAnswer, HookReply, Layer, LayerEntry, Setting, SettingKey};
 use smithy_types::{
     Blob, Body, Endpoint, EndpointHeader, HttpRequest, HttpResponse, List, OutOfMemory, Outcome,
     Shared,
@@ -166,6 +166,17 @@ fn hook_answer_fits(answer: &HookAnswer) -> bool
         && optional_text_fits(&answer.failure)
 }
 
+// A hook that did nothing is within all limits.
+#[tactic(auto, unfolding(crate::specs::Script::Limits::hook_answer_fits))]
+fn hook_reply_fits(reply: &HookReply) -> bool
+    ensures { result ≡ hook_answer_fits reply.now }
+{
+    match reply.did() {
+        Some(answer) => hook_answer_fits(answer),
+        None => true,
+    }
+}
+
 #[tactic(auto, unfolding(crate::specs::Script::Limits::chosen_fits))]
 fn chosen_fits(chosen: &Chosen) -> bool
     ensures { result ≡ chosen_fits chosen.now }
@@ -184,10 +195,7 @@ pub fn answer_fits(answer: &Answer) -> bool
         Answer::Failed(text) => text_fits(text),
         Answer::ConnectorFailed(_, text) => text_fits(text),
         Answer::Layer(layer) => layer_fits(layer),
-        Answer::Hooked(reply) => match reply.did() {
-            Some(answer) => hook_answer_fits(answer),
-            None => true,
-        },
+        Answer::Hooked(reply) => hook_reply_fits(reply),
         Answer::Request(request) => request_fits(request.get()),
         Answer::Loaded(bytes) => bytes_fit(bytes),
         Answer::Chosen(chosen) => chosen_fits(chosen.get()),
