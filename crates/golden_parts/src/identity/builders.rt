@@ -10,8 +10,15 @@ const SECOND: u64 = 1_000_000_000;
 /// The numbers of the cache that the builder builds.
 pub fn terms_of(builder: LazyCacheBuilder) -> Result<LazyCacheTerms> {
     match builder.build() {
-        Ok(SharedIdentityCache::Lazy(terms)) => Ok(terms),
-        _ => bail!("no cache is built"),
+        Ok(cache) => lazy_terms(&cache),
+        Err(_) => bail!("no cache is built"),
+    }
+}
+
+fn lazy_terms(cache: &SharedIdentityCache) -> Result<LazyCacheTerms> {
+    match cache {
+        SharedIdentityCache::Lazy(terms) => Ok(*terms),
+        _ => bail!("the cache isn't lazy"),
     }
 }
 
