@@ -1,7 +1,9 @@
-//! Prints how fleets end whose callers can only get on beside each other, to be compared with a
-//! print that was made without them.
+//! Prints how fleets end whose callers can only get on beside each other, and the log of a client
+//! that was built by other setters than those of scripts, to be compared with a print that was made
+//! without them.
 #![tactic(auto)]
 
+mod built;
 mod gate;
 mod scripts;
 
@@ -21,7 +23,8 @@ fn main(rt: HostRuntime) -> Result<()> {
         &rt,
         "a call that waits for another caller's next run",
         RETRY_AND_TWO_RUNS,
-    )
+    )?;
+    built::print(rt)
 }
 
 // Runs these callers behind a gate that holds a call of each, and tells whether one had to be let

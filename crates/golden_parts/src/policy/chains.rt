@@ -38,8 +38,9 @@ impl Intercept for Failing {
         _hook: Hook,
         _view: &HookView,
     ) -> Result<HookAnswer, OutOfMemory> {
+        let failure = self.text.clone()?;
         let mut answer = HookAnswer::done();
-        answer.failure = Some(self.text.clone()?);
+        answer.failure = Some(failure);
         Ok(answer)
     }
 }

@@ -1,6 +1,5 @@
 //! Builds an operation by setters that no script of a client comes to, and prints what its client
 //! asks and answers.
-#![tactic(auto)]
 
 use anyhow::Result;
 use auth_endpoint::AuthScheme;
@@ -95,9 +94,9 @@ impl DeserializeResponse for HeadDeserializer {
     }
 }
 
-// A client that signs, whose parts of the outside come by a plugin, and which gives a connection up
-// on which a transient failure came.
-fn main(rt: HostRuntime) -> Result<()> {
+/// Prints what comes of a client that signs, whose parts of the outside come by a plugin, and which
+/// gives a connection up on which a transient failure came.
+pub fn print(rt: HostRuntime) -> Result<()> {
     println!(rt;
         "a token, a plugin, and two attempts, the first of which gives its connection up"
     )?;
