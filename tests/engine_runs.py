@@ -43,7 +43,7 @@ def begin_of(script: Script) -> List[Any]:
 
 
 def request_behind(kind: str, answer: Any, before: Any) -> Any:
-    """The request that is to be sent behind an answer: as it was signed, or as a hook changed it."""
+    """The request that is to be sent behind an answer: as it was signed, or changed by a hook."""
     if kind == "Sign" and answer[0] == "Request":
         return answer[1]
     change = answer[1] if answer[0] == "Hook" else None

@@ -1,6 +1,6 @@
-"""Runs of the engine in which an answer or a change comes that no other row has: what is asked behind
-it, and what the run answers. They were worked out by hand, from the order in which a run asks its
-questions and from what each answer changes.
+"""Runs of the engine in which an answer or a change comes that no other row has: what is asked
+behind it, and what the run answers. They were worked out by hand, from the order in which a run
+asks its questions and from what each answer changes.
 """
 from typing import List
 

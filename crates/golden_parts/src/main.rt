@@ -1,10 +1,10 @@
 //! Prints what the parts of a client do by themselves, to be compared with a print that was made
-//! without them: buckets and limiters, retries, kept identities, fleets of waiters, guards of bodies,
-//! and auth with its endpoints.
+//! without them: buckets and limiters, retries, kept identities, fleets of waiters, guards of
+//! bodies, and auth with its endpoints.
 //!
-//! The word `identities` leaves the rows of kept identities alone. A number as the word lets so many
-//! waiters wait that are paid for, and prints how many events that makes, so that the instructions
-//! of an event can be counted.
+//! With the word `identities` it prints the rows of kept identities alone. With a number it lets so
+//! many waiters wait that are paid for, and prints how many events that makes, so that the
+//! instructions of an event can be counted.
 #![tactic(auto)]
 
 mod auth;

@@ -110,8 +110,8 @@ fn measuring(rate: u64) -> ClientRateLimiter {
         .build()
 }
 
-// A limiter that lacks a millionth of a token, and fills by more than a thousand tokens a second once
-// it is throttled.
+// A limiter that lacks a millionth of a token. Once it is throttled it fills by more than a thousand
+// tokens a second.
 fn nearly_full() -> ClientRateLimiter {
     ClientRateLimiter::builder()
         .current_bucket_capacity(999_999)
@@ -178,8 +178,8 @@ fn tell_at<L: Limiter>(limiter: &mut L, now: u64, throttled: bool) {
     limiter.update(now, throttled);
 }
 
-// All callers are throttled, a millisecond apart. Then each asks in every round, of which one begins
-// a tenth of a second behind the other, and each that was granted a request succeeds.
+// All callers are throttled, a millisecond apart. Then each asks in every round, and each that was
+// granted a request succeeds. A round begins a tenth of a second behind the one before.
 fn print_recovery<L: Limiter + Debug>(rt: HostRuntime, mut limiter: L) -> Result<()> {
     let mut now = answered(&mut limiter, 0, CALLERS, true);
     let mut total: u64 = 0;
@@ -202,7 +202,7 @@ fn answered<L: Limiter>(limiter: &mut L, mut now: u64, count: u64, throttled: bo
     now
 }
 
-// How many callers are granted a request, of which one asks a tenth of a millisecond behind another.
+// How many callers are granted a request. They ask a tenth of a millisecond apart.
 fn granted_at<L: Limiter>(limiter: &mut L, now: u64) -> u64 {
     let mut granted: u64 = 0;
     for caller in 0..CALLERS {
