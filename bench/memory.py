@@ -5,7 +5,7 @@ with ample memory. So it does for the rows of kept identities, each of whose run
 as with ample memory, or with a failure behind a front of its print. Prints a line for each example:
 the requests, and how many runs ended so and so.
 
-It wants the proved programs (./smithy_replay --prove; rt run in crates/golden_parts) and gcc.
+It wants the proved programs (./smithy_replay --prove; rt run in crates/golden_auth) and gcc.
 """
 import pathlib
 import subprocess
@@ -14,7 +14,7 @@ import tempfile
 
 TOP = pathlib.Path(__file__).resolve().parent.parent
 PROGRAM = TOP / "crates/smithy_replay/out/smithy_replay"
-ROWS = TOP / "crates/golden_parts/out/golden_parts"
+ROWS = TOP / "crates/golden_auth/out/golden_auth"
 NO_MEMORY = 5
 EXAMPLES = [
     (["replay"], "examples/teapot.json"),

@@ -98,7 +98,7 @@ impl ScriptedWorld {
 impl Timers for ScriptedWorld {
     ghost use Rattle.std.specs.Prelude.{Some, true};
     ghost use Rattle.waiters.specs.declared.timers.WaiterCall.TheVariants as call;
-    ghost use Rattle.golden_parts.specs.Makes.{Makes};
+    ghost use Rattle.golden_retries.specs.Makes.{Makes};
 
     ghost moment = { λ w. Some w.moment };
 
@@ -135,7 +135,7 @@ impl Timers for ScriptedWorld {
 
 impl WaiterTimers for ScriptedWorld {
     ghost use Rattle.std.specs.Prelude.{refl};
-    ghost use Rattle.golden_parts.specs.Makes.{Makes};
+    ghost use Rattle.golden_retries.specs.Makes.{Makes};
 
     ghost makes = { λ old one new. Makes old.unready old.waits one new.unready new.waits };
 
@@ -157,7 +157,7 @@ impl WaiterTimers for ScriptedWorld {
 }
 
 impl FleetWorld for ScriptedWorld {
-    ghost use Rattle.golden_parts.specs.Makes.{Does, does_made, makes_done};
+    ghost use Rattle.golden_retries.specs.Makes.{Does, does_made, makes_done};
 
     ghost does = { λ old one new. Does old.unready old.waits one new.unready new.waits };
 

@@ -1,4 +1,4 @@
-use Rattle.golden_parts.proofs.quota.locked.print.Given as goal
+use Rattle.golden_retries.proofs.quota.locked.print.Given as goal
 
 abbrev pub ghosts-print_two : goal.ghosts-print_two
 ghosts-print_two g a = record { name = a.blank.name; parts = a.blank.parts }
