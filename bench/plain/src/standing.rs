@@ -124,8 +124,6 @@ impl Standing {
 
     fn question_with_settings(&self, kind: Kind) -> Question {
         let settings = self.view.settings.clone();
-        let request = || self.view.request.clone();
-        let response = || self.view.response.clone();
         match kind {
             Kind::Configure(stage) => Question::Configure { stage, settings },
             Kind::Serialize => Question::Serialize {
@@ -138,38 +136,40 @@ impl Standing {
                 settings,
                 identity: self.identity.clone(),
             },
+            Kind::Apply | Kind::Sign | Kind::Transmit => self.request_question(kind, settings),
+            _ => self.response_question(kind, settings),
+        }
+    }
+
+    fn request_question(&self, kind: Kind, settings: Settings) -> Question {
+        let request = self.view.request.clone();
+        match kind {
             Kind::Apply => Question::Apply {
                 settings,
-                request: request(),
+                request,
                 endpoint: self.endpoint.clone(),
             },
             Kind::Sign => Question::Sign {
                 settings,
-                request: request(),
+                request,
                 scheme: self.scheme.clone(),
                 identity: self.identity.clone(),
                 endpoint: self.endpoint.clone(),
             },
-            Kind::Transmit => Question::Transmit {
-                settings,
-                request: request(),
-            },
-            Kind::Stream => Question::Stream {
-                settings,
-                response: response(),
-            },
-            Kind::Body => Question::Body {
-                settings,
-                response: response(),
-            },
-            Kind::Deserialize => Question::Deserialize {
-                settings,
-                response: response(),
-            },
+            _ => Question::Transmit { settings, request },
+        }
+    }
+
+    fn response_question(&self, kind: Kind, settings: Settings) -> Question {
+        let response = self.view.response.clone();
+        match kind {
+            Kind::Stream => Question::Stream { settings, response },
+            Kind::Body => Question::Body { settings, response },
+            Kind::Deserialize => Question::Deserialize { settings, response },
             _ => Question::Decide {
                 settings,
-                request: request(),
-                response: response(),
+                request: self.view.request.clone(),
+                response,
                 outcome: self.view.outcome.clone(),
                 attempt: self.view.attempt,
             },

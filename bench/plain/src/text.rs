@@ -127,11 +127,11 @@ pub fn read_hex<'de, A: MapAccess<'de>>(mut members: A) -> Result<Blob, A::Error
 }
 
 fn bytes_of(digits: &[u8]) -> Option<Vec<u8>> {
-    if digits.len() % 2 != 0 {
+    let pairs = digits.chunks_exact(2);
+    if !pairs.remainder().is_empty() {
         return None;
     }
-    digits
-        .chunks_exact(2)
+    pairs
         .map(|pair| Some(16 * digit(pair[0])? + digit(pair[1])?))
         .collect()
 }
