@@ -1,0 +1,117 @@
+//! Why a script is refused, in a line.
+
+use crate::finder::Finder;
+use crate::place::{MAX_DEPTH, Part, found_text, line_and_column, part_at, path_text};
+use crate::shape::ScriptKind;
+use crate::syntax::{Flaw, first_flaw};
+use crate::walk::is_of_form;
+use json::{Error, Reader, Scratch, Value};
+use std::alloc::{AllocError, Global};
+
+/// Why a command refused its input.
+#[derive(Clone, Copy, PartialEq, Eq)]
+pub enum Cause {
+    /// It isn't a script of the command.
+    Form,
+    /// It is a script, and passes a limit.
+    Limit,
+}
+
+/// Where and why the bytes aren't a script of this kind, or which limit it passes: `client script,
+/// line 7, column 12: clients[0].retry[1]: ..`. None where no place is found.
+pub fn explain(
+    alloc: Global,
+    kind: ScriptKind,
+    bytes: &[u8],
+    cause: Cause,
+) -> Result<Option<String>, AllocError> {
+    match str::from_utf8(bytes) {
+        Ok(text) => explain_text(alloc, kind, text, cause),
+        Err(error) => {
+            let offset = error.valid_up_to();
+            let place = place_text(alloc, kind, bytes, offset)?;
+            Ok(Some(format!(in alloc; "{place}not UTF-8 from here on")?))
+        }
+    }
+}
+
+// The same of a text.
+fn explain_text(
+    alloc: Global,
+    kind: ScriptKind,
+    text: &str,
+    cause: Cause,
+) -> Result<Option<String>, AllocError> {
+    if let Some(flaw) = first_flaw(alloc, text)? {
+        return Ok(Some(not_json(alloc, kind, text, flaw)?));
+    }
+    let mut scratch = Scratch::new(alloc);
+    let mut reader = Reader::new(text, &mut scratch)?;
+    match Value::read(alloc, &mut reader, MAX_DEPTH) {
+        Ok(script) => explain_value(alloc, kind, text, &script, cause),
+        Err(Error::OutOfMemory) => Err(AllocError),
+        Err(_) => Ok(None),
+    }
+}
+
+// The same of a value.
+fn explain_value(
+    alloc: Global,
+    kind: ScriptKind,
+    text: &str,
+    script: &Value,
+    cause: Cause,
+) -> Result<Option<String>, AllocError> {
+    let mut finder = Finder::new(alloc, kind, script, cause == Cause::Limit);
+    if is_of_form(&mut finder, script, kind.form())? {
+        return Ok(None);
+    }
+    Ok(Some(found_line(alloc, kind, text, script, &finder)?))
+}
+
+// The line of what was found.
+fn found_line(
+    alloc: Global,
+    kind: ScriptKind,
+    text: &str,
+    script: &Value,
+    finder: &Finder,
+) -> Result<String, AllocError> {
+    let part = part_at(alloc, text, finder.path.as_slice(), finder.at_name)?;
+    let mut line = place_text(alloc, kind, text.as_bytes(), part.start)?;
+    let path = path_text(alloc, script, finder.path.as_slice())?;
+    line.push_str(path.as_str())?;
+    line.push_str(": ")?;
+    line.push_str(finder.reason.as_str())?;
+    if finder.shows_found {
+        let found = found_text(alloc, text.as_bytes(), part)?;
+        line.push_str(", found ")?;
+        line.push_str(found.as_str())?;
+    }
+    line.push_str(finder.hint.as_str())?;
+    Ok(line)
+}
+
+// The line of a text that isn't JSON.
+fn not_json(alloc: Global, kind: ScriptKind, text: &str, flaw: Flaw) -> Result<String, AllocError> {
+    let place = place_text(alloc, kind, text.as_bytes(), flaw.offset)?;
+    let part = Part {
+        start: flaw.offset,
+        end: text.len(),
+    };
+    let found = found_text(alloc, text.as_bytes(), part)?;
+    let expected = flaw.expected;
+    format!(in alloc; "{place}not JSON: expected {expected}, found {found}")
+}
+
+// `client script, line 7, column 12: `
+fn place_text(
+    alloc: Global,
+    kind: ScriptKind,
+    text: &[u8],
+    offset: usize,
+) -> Result<String, AllocError> {
+    let command = kind.command();
+    let (line, column) = line_and_column(text, offset);
+    format!(in alloc; "{command} script, line {line}, column {column}: ")
+}
