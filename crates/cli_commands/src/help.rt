@@ -13,8 +13,23 @@ A command reads its script from standard input and prints to standard output.
   fleet         runs clients in threads over one bucket
   check         tells whether its input is the print of a run
   make N SEED   makes a script of N invocations and runs it; reads nothing
+  --schema COMMAND  prints the JSON Schema of a command's scripts; reads nothing
   --help        prints this text; reads nothing
   --version     prints the version; reads nothing
+
+Examples:
+
+  smithy_replay replay < examples/teapot.json
+  smithy_replay client < examples/client/a_retry_after_503.json
+  smithy_replay wait < examples/wait/fifth_poll.json
+  smithy_replay waiters < examples/waiters/one_of_two.json
+  smithy_replay fleet < examples/fleet/a_retry_each.json
+  smithy_replay check < examples/teapot.txt
+  smithy_replay make 3 7
+  smithy_replay --schema client
+
+docs/FORMATS.md tells what each command reads and prints. Where words or an
+input are refused, standard error says why, and where in the input.
 
 Exit statuses:
 

@@ -1,7 +1,7 @@
 //! Why a text isn't JSON.
 
 use crate::place::MAX_DEPTH;
-use json::{Reader, Scratch, Token};
+use json::{Reader, Scratch, Token, Value};
 use std::alloc::{AllocError, Global};
 
 /// A place where a text isn't JSON.
@@ -58,6 +58,7 @@ impl Reading {
             Token::EndObject => Ok(self.close(true)),
             Token::BeginArray => self.begin(false),
             Token::BeginObject => self.begin(true),
+            Token::Number(text) => Ok(is_finite(text) && self.take_value()),
             _ => Ok(self.take_value()),
         }
     }
@@ -109,6 +110,15 @@ impl Reading {
         let _closed = self.open.pop();
         self.end_value();
         true
+    }
+}
+
+// Whether the number isn't too large for a float: no larger one is read.
+fn is_finite(text: &str) -> bool {
+    let number: Value = Value::Number(text);
+    match number.as_f64() {
+        Some(float) => float.is_finite(),
+        None => false,
     }
 }
 

@@ -1,18 +1,74 @@
-//! Runs a command of the command line over standard input and standard output.
+//! Runs a command of the command line over standard input and standard output, and tells on
+//! standard error why one was refused.
 #![tactic(auto)]
 
 use cli_commands::program::program;
+use cli_refusals::{Call, KeepingReader, print_schema, refusal_line, schema_kind};
 use cli_shell::status::Status;
+use script_forms::ScriptKind;
 use smithy_types::{List, Text};
 use std::process::ExitCode;
 use std::{env, io};
 
 fn main(rt: HostRuntime) -> ExitCode {
     let status = match command_line(&rt) {
-        Ok(words) => { program(&rt, rt.alloc(), words.as_slice(), rt.stdin(), rt.stdout()).status }
-        Err(status) => status,
+        Ok(words) => match asked_schema(words.as_slice()) {
+            Some(kind) => print_schema(rt.alloc(), kind, rt.stdout()).0,
+            None => {
+                let reader = KeepingReader::new(rt.alloc(), rt.stdin());
+                let finished = program(&rt, rt.alloc(), words.as_slice(), reader, rt.stdout());
+                tell(
+                    &rt,
+                    words.as_slice(),
+                    finished.source.reader.all(),
+                    finished.status,
+                );
+                finished.status
+            }
+        },
+        Err(status) => refused_words(&rt, status),
     };
     ExitCode::from(status.number())
+}
+
+// Words that aren't UTF-8 were refused before any was read.
+fn refused_words(rt: &HostRuntime, status: Status) -> Status {
+    if status == Status::BadWords {
+        let _said = eprintln!(rt; "smithy_replay: the arguments aren't UTF-8; try --help");
+    }
+    status
+}
+
+// The kind of scripts whose schema is asked for.
+fn asked_schema(words: &[Text]) -> Option<ScriptKind> {
+    match words {
+        [first, second] => schema_kind(first.as_str(), second.as_str()),
+        _ => None,
+    }
+}
+
+// Says on standard error why a call was refused, where its input was kept. Where it can't be said,
+// the status tells it.
+fn tell(rt: &HostRuntime, words: &[Text], input: Option<&[u8]>, status: Status) {
+    let Some(input) = input else {
+        return;
+    };
+    let call = Call {
+        command: first_word(words),
+        words: words.len(),
+        input,
+    };
+    if let Ok(Some(line)) = refusal_line(rt.alloc(), call, status) {
+        let _said = eprintln!(rt; "smithy_replay: {line}");
+    }
+}
+
+// The first word, and no text where there is none.
+fn first_word(words: &[Text]) -> &str {
+    match words {
+        [first, ..] => first.as_str(),
+        [] => "",
+    }
 }
 
 // The words behind the program's name.
@@ -24,15 +80,27 @@ fn command_line(rt: &HostRuntime) -> Result<List<Text>, Status> {
     };
     arguments.next();
     for argument in arguments {
-        let word = match Text::from_string(argument) {
+        let word = match spelled_out(argument) {
             Ok(word) => word,
-            Err(_) => return Err(Status::OutOfMemory),
+            Err(status) => return Err(status),
         };
         if words.push(rt.alloc(), word).is_err() {
             return Err(Status::OutOfMemory);
         }
     }
     Ok(words)
+}
+
+// A word, and the command that its short form stands for.
+fn spelled_out(argument: String) -> Result<Text, Status> {
+    match argument.as_str() {
+        "help" | "-h" => Ok(Text::from_static("--help")),
+        "version" | "-V" => Ok(Text::from_static("--version")),
+        _ => match Text::from_string(argument) {
+            Ok(word) => Ok(word),
+            Err(_) => Err(Status::OutOfMemory),
+        },
+    }
 }
 
 // Words that aren't UTF-8 are no command.

@@ -1,0 +1,54 @@
+//! What is said of an input that was refused.
+
+use crate::refusals::Call;
+use cli_shell::status::Status;
+use cli_shell::streams::INPUT_LIMIT;
+use script_forms::{Cause, ScriptKind, explain};
+use std::alloc::{AllocError, Global};
+
+/// The kind of scripts that the command reads; none where it reads none.
+pub fn script_kind(command: &str) -> Option<ScriptKind> {
+    match command {
+        "replay" => Some(ScriptKind::Replay),
+        "client" => Some(ScriptKind::Client),
+        "fleet" => Some(ScriptKind::Fleet),
+        "wait" => Some(ScriptKind::Wait),
+        "waiters" => Some(ScriptKind::Waiters),
+        _ => None,
+    }
+}
+
+/// Why the input of a call was refused: where it isn't a script, or which limit it passes.
+pub fn input_line(alloc: Global, call: Call<'_>, status: Status) -> Result<String, AllocError> {
+    let command = call.command;
+    if command == "make" {
+        return String::from_str(alloc, "make: N is at most 1000");
+    }
+    if call.input.len() > INPUT_LIMIT {
+        return format!(in alloc; "{command}: the input has more than 16777216 bytes, its limit");
+    }
+    match script_kind(command) {
+        Some(kind) => script_line(alloc, kind, call.input, status),
+        None => format!(in alloc; "{command}: the input was refused"),
+    }
+}
+
+// The same of a script.
+fn script_line(
+    alloc: Global,
+    kind: ScriptKind,
+    input: &[u8],
+    status: Status,
+) -> Result<String, AllocError> {
+    let cause = match status {
+        Status::TooLarge => Cause::Limit,
+        _ => Cause::Form,
+    };
+    match explain(alloc, kind, input, cause)? {
+        Some(line) => Ok(line),
+        None => {
+            let command = kind.command();
+            format!(in alloc; "{command} script: it was refused, and no reason was found")
+        }
+    }
+}

@@ -1,0 +1,13 @@
+//! Why the program refused its arguments or its input, in a line for standard error; and a reader
+//! that keeps what it gave, so that this can be told afterwards.
+#![tactic(auto)]
+
+pub mod inputs;
+pub mod keeping;
+pub mod refusals;
+pub mod schema_command;
+pub mod word_list;
+
+pub use keeping::KeepingReader;
+pub use refusals::{Call, refusal_line};
+pub use schema_command::{print_schema, schema_kind};
