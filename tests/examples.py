@@ -2,6 +2,7 @@
 
 The folder below examples/ names the command, and a script right in examples/ is one of `replay`.
 Beside a script `NAME.json` stand its status in `NAME.status` and its whole print in `NAME.txt`.
+`NAME.moments` has that print with the moments of its entries, worked out by hand.
 Clients in examples/client/rows/ and examples/client/schemes/ have facts or requests in place of a
 print, which the module `clients` compares.
 """
@@ -10,7 +11,7 @@ import pathlib
 from .support.program import EXAMPLES, ProgramTest, run
 
 SCRIPTS = sorted(EXAMPLES.rglob("*.json"))
-ENDINGS = {".json", ".status", ".txt", ".facts", ".requests"}
+ENDINGS = {".json", ".status", ".txt", ".facts", ".requests", ".moments"}
 
 
 def name_of(path: pathlib.Path) -> str:
@@ -40,6 +41,13 @@ class ExampleTest(ProgramTest):
         for printed in sorted(EXAMPLES.glob("*.txt")):
             with self.subTest(name_of(printed)):
                 self.assertEqual(run("check", text=printed.read_text()), (0, '["yes"]\n'))
+
+    def test_a_print_with_moments_is_the_print_but_for_these(self):
+        for path in sorted(EXAMPLES.rglob("*.moments")):
+            with self.subTest(name_of(path)):
+                lines = path.read_text().splitlines(keepends=True)
+                plain = "".join(line for line in lines if not line.startswith('["at",'))
+                self.assertEqual(plain, path.with_suffix(".txt").read_text())
 
     def test_each_file_belongs_to_a_script(self):
         for path in sorted(EXAMPLES.rglob("*.*")):

@@ -1,0 +1,1 @@
+"""What `tools/timeline` reads, and how it draws it."""
