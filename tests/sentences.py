@@ -1,15 +1,17 @@
 """Checks how long the sentences of the pages for users are. Of their text only prose counts: no
-code, no tables, no headings.
+code, no tables, no headings. The sections to which the first page leads are short as a whole.
 """
 import re
 import unittest
-from typing import List
+from typing import Dict, List, Tuple
 
 from .support import repository
 
 PAGE = re.compile(r"(README|CONTRIBUTING|CHANGELOG|SECURITY)\.md|docs/[^/]+\.md")
 LONG = 25  # the most words of a sentence that isn't long
 WORDS_OF_README = 850
+WORDS_OF_AN_ANSWER = 400
+SECTION = re.compile(r"\]\(([A-Za-z_./]+\.md)#([a-z0-9-]+)\)")
 
 
 def pages() -> List[str]:
@@ -42,6 +44,24 @@ def words_of(sentence: str) -> int:
     return len(re.findall(r"[\w'’-]+", sentence))
 
 
+def sections_of(page: str) -> Dict[str, str]:
+    """The text of each section with all that stands below its heading, by the name that a link has
+    for it."""
+    found: Dict[str, str] = {}
+    open_ones: List[Tuple[int, str]] = []
+    for line in page.splitlines():
+        heading = re.match("(#+) (.*)", line)
+        if heading:
+            level = len(heading[1])
+            open_ones = [(above, name) for above, name in open_ones if above < level]
+            name = re.sub(r"[^a-z0-9_ -]", "", heading[2].lower()).replace(" ", "-")
+            open_ones.append((level, name))
+            found[name] = ""
+        for _, name in open_ones:
+            found[name] += f"{line}\n"
+    return found
+
+
 class SentenceTest(unittest.TestCase):
     def test_at_most_one_sentence_in_ten_is_long(self):
         for path in pages():
@@ -55,6 +75,12 @@ class SentenceTest(unittest.TestCase):
         long = [sentence for sentence in sentences_of(page) if words_of(sentence) > LONG]
         self.assertEqual(long, [])
         self.assertLessEqual(len(page.split()), WORDS_OF_README)
+
+    def test_a_section_that_the_first_page_names_is_short(self):
+        for path, name in SECTION.findall(repository.read("README.md")):
+            with self.subTest(f"{path}#{name}"):
+                section = sections_of(repository.read(path))[name]
+                self.assertLessEqual(len(section.split()), WORDS_OF_AN_ANSWER)
 
     def test_sentences_are_told_apart(self):
         page = "# A heading\n\nOne two. Three `a b`\nfour!\n\n- five\n- six? Seven\n\n| a | b |\n"
