@@ -37,4 +37,4 @@ class WordTest(ProgramTest):
         self.assertEqual(run("--help"), (0, HELP.read_text()))
 
     def test_the_version(self):
-        self.assertEqual(run("--version"), (0, "smithy_replay 0.1.0\n"))
+        self.assertEqual(run("--version"), (0, "smithy_replay 0.2.0\n"))

@@ -49,4 +49,4 @@ Exit statuses:
 ";
 
 /// What `--version` prints.
-pub const VERSION: &str = "smithy_replay 0.1.0\n";
+pub const VERSION: &str = "smithy_replay 0.2.0\n";
