@@ -13,7 +13,10 @@ use std::{env, io};
 fn main(rt: HostRuntime) -> ExitCode {
     let status = match command_line(&rt) {
         Ok(words) => match asked_schema(words.as_slice()) {
-            Some(kind) => print_schema(rt.alloc(), kind, rt.stdout()).0,
+            Some(kind) => {
+                let (status, _sink) = print_schema(rt.alloc(), kind, rt.stdout());
+                status
+            }
             None => {
                 let reader = KeepingReader::new(rt.alloc(), rt.stdin());
                 let finished = program(&rt, rt.alloc(), words.as_slice(), reader, rt.stdout());
@@ -65,10 +68,10 @@ fn tell(rt: &HostRuntime, words: &[Text], input: Option<&[u8]>, status: Status) 
 
 // The first word, and no text where there is none.
 fn first_word(words: &[Text]) -> &str {
-    match words {
-        [first, ..] => first.as_str(),
-        [] => "",
+    if words.is_empty() {
+        return "";
     }
+    words[0].as_str()
 }
 
 // The words behind the program's name.
@@ -80,9 +83,9 @@ fn command_line(rt: &HostRuntime) -> Result<List<Text>, Status> {
     };
     arguments.next();
     for argument in arguments {
-        let word = match spelled_out(argument) {
-            Ok(word) => word,
-            Err(status) => return Err(status),
+        let word = match Text::from_string(argument) {
+            Ok(word) => spelled_out(word),
+            Err(_) => return Err(Status::OutOfMemory),
         };
         if words.push(rt.alloc(), word).is_err() {
             return Err(Status::OutOfMemory);
@@ -91,15 +94,20 @@ fn command_line(rt: &HostRuntime) -> Result<List<Text>, Status> {
     Ok(words)
 }
 
-// A word, and the command that its short form stands for.
-fn spelled_out(argument: String) -> Result<Text, Status> {
-    match argument.as_str() {
-        "help" | "-h" => Ok(Text::from_static("--help")),
-        "version" | "-V" => Ok(Text::from_static("--version")),
-        _ => match Text::from_string(argument) {
-            Ok(word) => Ok(word),
-            Err(_) => Err(Status::OutOfMemory),
-        },
+// A word, or the command that it stands for.
+fn spelled_out(word: Text) -> Text {
+    if let Some(name) = whole_name(word.as_str()) {
+        return Text::from_static(name);
+    }
+    word
+}
+
+// The command that a short form stands for.
+fn whole_name(word: &str) -> Option<&'static str> {
+    match word {
+        "help" | "-h" => Some("--help"),
+        "version" | "-V" => Some("--version"),
+        _ => None,
     }
 }
 
