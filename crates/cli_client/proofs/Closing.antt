@@ -1,5 +1,5 @@
 -- Where no box is made, it doesn't matter of what kind boxes would be.
-use Rattle.std.proofs.Common.{◌≡◌, ◌⊎◌, ℕ, ℤ, Bool, List, [], refl, sym, subst, inl, inr}
+use Rattle.std.proofs.Common.{◌≡◌, ℕ, ℤ, List, subst, inl, inr}
 use Rattle.cli_client.specs.Client.{IsToldOf, PlaysScript}
 use Rattle.cli_client.specs.Report.{Reports}
 use Rattle.cli_client.specs.declared.report.Report.{Report}

@@ -2,3 +2,5 @@ pub mod Saying
 pub mod Closing
 pub mod Opened
 pub mod Tallied
+pub mod Markings
+pub mod SayingMoments

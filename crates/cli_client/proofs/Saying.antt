@@ -1,5 +1,5 @@
 -- What is said of a script is said of its bytes.
-use Rattle.std.proofs.Common.{ℕ, List, ◌≡◌}
+use Rattle.std.proofs.Common.{ℕ, List}
 use Rattle.cli_client.specs.Client.{client_says, script_says}
 use Rattle.json_scripts.specs.Client.Script.{IsClientScript}
 use Rattle.json_scripts.specs.declared.client.script.ClientScript.{ClientScript}

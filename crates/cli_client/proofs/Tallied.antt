@@ -1,5 +1,5 @@
 -- One invocation more is counted.
-use Rattle.std.proofs.Common.{◌≡◌, ◌∙◌, refl, sym, ap, ℕ, ◌+◌, cond, List, [], ◌∷◌, ◌++◌, length, map, arith}
+use Rattle.std.proofs.Common.{◌≡◌, ◌∙◌, refl, sym, ap, ◌+◌, cond, List, [], ◌∷◌, ◌++◌, length, map, arith}
 use Rattle.std.proofs.lemmas.List.{length-set}
 use Rattle.cli_client_runs.specs.Running.{InvokedIn, Ran, Runs}
 use Rattle.cli_client_runs.specs.declared.set.ClientSet.{ClientSet}
@@ -7,7 +7,6 @@ use Rattle.json_scripts.specs.declared.client.terms.InvocationRecord.{Invocation
 use Rattle.run_grammar.specs.declared.answer.Entry.{Entry}
 use Rattle.client_scripted.specs.Clients.{ServiceWorld}
 use Rattle.smithy_types.proofs.ChainLemmas.{chained_more}
-use Rattle.smithy_types.specs.Chain.{Chained}
 use Rattle.cli_client.specs.Tally.{Tallies, TalliesOne, calls_in, errors_in, is_output, outputs_in}
 use Rattle.cli_client.specs.declared.tally.Tally.{Tally}
 

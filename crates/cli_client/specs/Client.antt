@@ -12,7 +12,6 @@ use Rattle.client_scripted.specs.Clients.{ServiceWorld}
 use Rattle.smithy_base.specs.declared.intercept.Slot.{Slot}
 use Rattle.cli_shell.specs.Said.{Said, prints, refuses}
 use Rattle.cli_shell.specs.declared.status.PrintStatus.{PrintStatus}
-use Rattle.cli_shell.specs.declared.status.PrintStatus.TheVariants as outcomes
 use Rattle.cli_shell.specs.declared.status.Refusal.TheVariants as refusals
 use Rattle.json_scripts.specs.Workload.Made.{made_script}
 use Rattle.cli_client.specs.Means.{NoClassifier, NoInterceptor, none, own_ranked, OwnServed}

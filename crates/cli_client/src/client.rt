@@ -6,6 +6,7 @@ ghost use Rattle.cli_shell.specs.Said.{said};
 
 use crate::play::play_script;
 use crate::report::Report;
+use cli_client_runs::Notes;
 use cli_shell::command::{Answer, Command};
 use cli_shell::status::Refusal;
 use json_forms::ReadError;
@@ -41,8 +42,8 @@ fn answer_to(alloc: Global, script: ClientScript) -> Result<Answer, AllocError>
     if !client_script_fits(&script) {
         return Ok(Answer::Refusal(Refusal::TooLarge));
     }
-    match play_script(alloc, script, Report::Print) {
-        Ok((text, outcome)) => Ok(Answer::Print(text, outcome)),
+    match play_script(alloc, script, Report::Print, Notes::new(false)) {
+        Ok(played) => Ok(Answer::Print(played.text, played.outcome)),
         Err(OutOfMemory) => Err(AllocError),
     }
 }

@@ -3,6 +3,8 @@
 
 pub mod client;
 pub mod make;
+pub mod marks;
+pub mod moments;
 pub mod opening;
 pub mod play;
 pub mod report;
@@ -10,3 +12,4 @@ pub mod tally;
 
 pub use client::ClientCommand;
 pub use make::MakeCommand;
+pub use moments::MomentsCommand;

@@ -5,6 +5,7 @@ ghost use Rattle.cli_shell.specs.Said.{said};
 
 use crate::play::play_script;
 use crate::report::Report;
+use cli_client_runs::Notes;
 use cli_shell::command::{Answer, Telling};
 use cli_shell::status::Refusal;
 use json_scripts::workload::made_script;
@@ -46,6 +47,7 @@ fn played(alloc: Global, count: u64, seed: u64) -> Result<Answer, OutOfMemory>
     ensures { IfOk result (λ a. make_says count seed (said a)) }
 {
     let script = made_script(alloc, count, seed)?;
-    let (text, outcome) = play_script(alloc, script, Report::Counts { count, seed })?;
-    Ok(Answer::Print(text, outcome))
+    let notes = Notes::new(false);
+    let played = play_script(alloc, script, Report::Counts { count, seed }, notes)?;
+    Ok(Answer::Print(played.text, played.outcome))
 }

@@ -6,22 +6,34 @@ ghost use Rattle.json_scripts.specs.Client.Placed.{IsPlaced};
 
 use crate::opening::open_quota;
 use crate::report::{Report, report_on};
-use cli_client_runs::ClientSet;
+use cli_client_runs::{ClientSet, Notes};
 use cli_shell::status::PrintStatus;
 use client_scripted::build_clients;
 use json_scripts::client::ClientScript;
 use outside_scripted::ScriptedOutside;
-use smithy_types::OutOfMemory;
+use smithy_types::{List, OutOfMemory};
 use std::alloc::Global;
 
-/// Makes the script's invocations. Answers what is told of them, and what it comes to.
+/// What a script that was played comes to.
+#[derive(Drop)]
+pub(crate) struct Played {
+    /// What is told of its invocations.
+    pub text: Vec<u8>,
+    /// What that comes to.
+    pub outcome: PrintStatus,
+    /// The moment of each entry, in nanoseconds, where the moments were asked for.
+    pub moments: List<u64>,
+}
+
+/// Makes the script's invocations, and notes the moments of their entries where they are asked for.
 pub(crate) fn play_script(
     alloc: Global,
     script: ClientScript,
     report: Report,
-) -> Result<(Vec<u8>, PrintStatus), OutOfMemory>
+    notes: Notes,
+) -> Result<Played, OutOfMemory>
     requires { IsPlaced script }
-    ensures { IfOk result (λ told. IsToldOf report script told.0.items told.1) }
+    ensures { IfOk result (λ played. IsToldOf report script played.text.items played.outcome) }
 {
     let ClientScript {
         buckets,
@@ -37,7 +49,13 @@ pub(crate) fn play_script(
         outside: ScriptedOutside::new(alloc, start, words),
         quota,
         clients: built,
+        notes,
     };
-    let told = report_on(alloc, &mut set, invocations, report)?;
-    Ok(told)
+    let (text, outcome) = report_on(alloc, &mut set, invocations, report)?;
+    let ClientSet { notes, .. } = set;
+    Ok(Played {
+        text,
+        outcome,
+        moments: notes.moments,
+    })
 }

@@ -1,3 +1,4 @@
 pub mod Running
 pub mod Buckets
 pub mod Invoked
+pub mod Moments

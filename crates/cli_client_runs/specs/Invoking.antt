@@ -14,6 +14,7 @@ use Rattle.outside_scripted.specs.declared.records.IdentityRecord.{IdentityRecor
 use Rattle.outside_scripted.specs.declared.records.ResponseRecord.{ResponseRecord}
 use Rattle.outside_scripted.specs.declared.scripted_outside.ScriptedOutside.{ScriptedOutside}
 use Rattle.client_scripted.specs.Clients.{ServiceWorld}
+use Rattle.cli_client_runs.specs.Noted.{Noted}
 use Rattle.client_scripted.specs.declared.client.ScriptedClient.{ScriptedClient}
 use Rattle.smithy_types.specs.declared.kinds.StopPoint.{StopPoint}
 use Rattle.smithy_types.specs.declared.payload.Payload.{Payload}
@@ -49,3 +50,9 @@ module _ {C I : Type 0} (relates : ServiceWorld C I → List Entry → ServiceWo
     pub leaves : Exchanges Makes served.parts own_outside own_quota new.world.parts outside_after quota_after
     pub ends : Ends (head_by i) [] log ending
     pub others : new ≡ record old { world = new.world }
+
+  -- The same, and the moment of the client's outside behind each entry is noted.
+  pub record InvokedNoting (old : ScriptedClient C I) (outside : ScriptedOutside) (quota : Registers Pace) (i : InvocationRecord) (before : List ℕ) (log : List Entry) (ending : Ending)
+      (new : ScriptedClient C I) (outside_after : ScriptedOutside) (quota_after : Registers Pace) (after : List ℕ) : Type 0 where
+    pub invoked : Invoked old outside quota i log ending new outside_after quota_after
+    pub noted : Noted relates (λ w. w.parts.outside.moment) invoked.entered before log invoked.served after

@@ -1,4 +1,5 @@
 pub mod Means
 pub mod Invoking
+pub mod Noted
 pub mod Print
 pub mod Running

@@ -1,8 +1,9 @@
 //! One invocation of a client's operation.
 ghost use Rattle.std.specs.Prelude.{◌≡◌, [], IfOk};
 ghost use Rattle.cli_client_runs.specs.Means.{ServedBy};
-ghost use Rattle.cli_client_runs.specs.Invoking.{Invoked, head_of};
+ghost use Rattle.cli_client_runs.specs.Invoking.{Invoked, InvokedNoting, head_of};
 
+use crate::noting::{NotedRun, run_noting};
 use client_retries::TakeOffer;
 use client_scripted::service::{ERROR_KIND, OUTPUT_KIND};
 use client_scripted::{ClientQuota, ScriptedClient};
@@ -54,6 +55,76 @@ pub fn invoke<C: ClassifyRetry, I: TakeOffer>(
     client.world.swap_parts(outside, quota);
     let log = mem::replace(&mut client.world.log, List::new());
     Ok((log, ending))
+}
+
+/// What was made of a client whose moments were noted.
+#[derive(Drop)]
+pub struct NotedInvocation<C: ClassifyRetry, I: TakeOffer> {
+    /// The client.
+    pub client: ScriptedClient<C, I>,
+    /// The run's entries.
+    pub log: List<Entry>,
+    /// How it ended.
+    pub ending: Ending,
+    /// The moments that were noted before, and one for each entry.
+    pub moments: List<u64>,
+}
+
+/// Runs the client's operation as `invoke` does, and notes the moment of each entry behind these.
+pub fn invoke_noting<C: ClassifyRetry, I: TakeOffer>(
+    alloc: Global,
+    client: ScriptedClient<C, I>,
+    outside: &mut ScriptedOutside,
+    quota: &mut ClientQuota,
+    invocation: InvocationRecord,
+    moments: List<u64>,
+) -> Result<NotedInvocation<C, I>, OutOfMemory>
+    ensures { IfOk result (λ ran. InvokedNoting
+        (ServedBy C.says (record {
+          names = I.names;
+          hooks = I.hooks;
+          runs = I.runs;
+          with_bucket = I.with_bucket;
+          with_verdict = I.with_verdict;
+        })) client outside.old quota.old invocation moments ran.log ran.ending ran.client
+        outside.new quota.new ran.moments) }
+{
+    let InvocationRecord {
+        input,
+        fuel,
+        stop,
+        responses,
+        ..
+    } = invocation;
+    let head = head_of(input, fuel, stop);
+    outside.begin_invocation(alloc, responses, client.identities.clone()?);
+    let ScriptedClient {
+        operation,
+        mut world,
+        identities,
+    } = client;
+    let empty_log = log_with_room(alloc)?;
+    world.log = empty_log;
+    world.swap_parts(outside, quota);
+    let ran = run_noting(alloc, &operation, &head, world, moments)?;
+    let NotedRun {
+        mut world,
+        ending,
+        moments,
+    } = ran;
+    world.swap_parts(outside, quota);
+    let log = mem::replace(&mut world.log, List::new());
+    let client = ScriptedClient {
+        operation,
+        world,
+        identities,
+    };
+    Ok(NotedInvocation {
+        client,
+        log,
+        ending,
+        moments,
+    })
 }
 
 // A log without entries, with room for those of a run of some attempts.

@@ -2,8 +2,10 @@
 #![tactic(auto)]
 
 pub mod invocation;
+pub mod noting;
 pub mod print;
 pub mod set;
 
 pub use invocation::invoke;
+pub use noting::Notes;
 pub use set::ClientSet;

@@ -4,7 +4,8 @@ ghost use Rattle.json_scripts.specs.Client.Placed.{HasClient};
 ghost use Rattle.cli_client_runs.specs.Means.{ServedBy};
 ghost use Rattle.cli_client_runs.specs.Running.{InvokedIn, Plays, RunsAll, RunsOne, loads_in};
 
-use crate::invocation::invoke;
+use crate::invocation::{NotedInvocation, invoke, invoke_noting};
+use crate::noting::Notes;
 use crate::print::{print_buckets, print_invocation, print_loads};
 use cli_shell::status::PrintStatus;
 use client_retries::TakeOffer;
@@ -18,6 +19,7 @@ use retry_policy::ClassifyRetry;
 use run_grammar::Entry;
 use smithy_types::{List, OutOfMemory};
 use std::alloc::Global;
+use std::mem;
 
 /// Clients over one outside and one quota.
 #[derive(Drop)]
@@ -28,11 +30,38 @@ pub struct ClientSet<C: ClassifyRetry, I: TakeOffer> {
     pub quota: ClientQuota,
     /// The clients, in the script's order.
     pub clients: Vec<ScriptedClient<C, I>>,
+    /// The moments of the entries of all invocations so far, where they are asked for.
+    pub notes: Notes,
 }
 
 impl<C: ClassifyRetry, I: TakeOffer> ClientSet<C, I> {
-    /// Invokes the operation of one of the clients. Answers the run's entries and how it ended.
+    /// Invokes the operation of one of the clients, and notes the moments of the entries where they
+    /// are asked for. Answers the run's entries and how it ended.
     pub fn invoke(
+        &mut self,
+        alloc: Global,
+        invocation: InvocationRecord,
+    ) -> Result<(List<Entry>, Ending), OutOfMemory>
+        requires { invocation.client < length self.old.clients.items }
+        ensures { IfOk result (λ ran. InvokedIn
+            (ServedBy C.says (record {
+              names = I.names;
+              hooks = I.hooks;
+              runs = I.runs;
+              with_bucket = I.with_bucket;
+              with_verdict = I.with_verdict;
+            })) self.old invocation ran.0
+            ran.1 self.new) }
+    {
+        if self.notes.asked {
+            self.invoke_noting(alloc, invocation)
+        } else {
+            self.invoke_plain(alloc, invocation)
+        }
+    }
+
+    // Invokes the operation of one of the clients.
+    fn invoke_plain(
         &mut self,
         alloc: Global,
         invocation: InvocationRecord,
@@ -56,6 +85,46 @@ impl<C: ClassifyRetry, I: TakeOffer> ClientSet<C, I> {
             &mut self.quota,
             invocation,
         )
+    }
+
+    // Invokes the operation of one of the clients, and notes the moments of the entries. The client
+    // is taken out meanwhile.
+    fn invoke_noting(
+        &mut self,
+        alloc: Global,
+        invocation: InvocationRecord,
+    ) -> Result<(List<Entry>, Ending), OutOfMemory>
+        requires { invocation.client < length self.old.clients.items }
+        ensures { IfOk result (λ ran. InvokedIn
+            (ServedBy C.says (record {
+              names = I.names;
+              hooks = I.hooks;
+              runs = I.runs;
+              with_bucket = I.with_bucket;
+              with_verdict = I.with_verdict;
+            })) self.old invocation ran.0
+            ran.1 self.new) }
+    {
+        let place = invocation.client;
+        let client = self.clients.remove(place);
+        let moments = mem::replace(&mut self.notes.moments, List::new());
+        let noted = invoke_noting(
+            alloc,
+            client,
+            &mut self.outside,
+            &mut self.quota,
+            invocation,
+            moments,
+        )?;
+        let NotedInvocation {
+            client,
+            log,
+            ending,
+            moments,
+        } = noted;
+        self.clients.insert(place, client)?;
+        self.notes.moments = moments;
+        Ok((log, ending))
     }
 
     // Makes these invocations in their order, and prints each behind what is there. Answers what

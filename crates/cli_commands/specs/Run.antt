@@ -12,6 +12,7 @@ use Rattle.cli_shell.specs.declared.status.ShellStatus.TheVariants as shells
 use Rattle.cli_shell.specs.declared.status.Status.{Status}
 use Rattle.cli_wait.specs.Wait.{wait_says}
 use Rattle.cli_client.specs.Client.{client_says, make_says}
+use Rattle.cli_client.specs.Moments.{moments_says}
 use Rattle.cli_fleet.specs.Fleet.{fleet_says}
 use Rattle.cli_waiters.specs.Waiters.{waiters_says}
 use Rattle.runcheck.specs.Check.{check_says}
@@ -35,6 +36,7 @@ Does reads sees (Some commands.Help) ended before after old new = Shows sees (te
 Does reads sees (Some commands.Version) ended before after old new = Shows sees (tells_text VERSION.now) ended before after old new
 Does reads sees (Some commands.Replay) ended before after old new = Serves reads sees replay_says ended before after old new
 Does reads sees (Some commands.Client) ended before after old new = Serves reads sees client_says ended before after old new
+Does reads sees (Some commands.Moments) ended before after old new = Serves reads sees moments_says ended before after old new
 Does reads sees (Some commands.Wait) ended before after old new = Serves reads sees wait_says ended before after old new
 Does reads sees (Some commands.Waiters) ended before after old new = Serves reads sees waiters_says ended before after old new
 Does reads sees (Some commands.Fleet) ended before after old new = Serves reads sees fleet_says ended before after old new

@@ -36,7 +36,11 @@ one_word w = if is_word (codes "--help") w then Some commands.Help
     else (if is_word (codes "fleet") w then Some commands.Fleet
     else (if is_word (codes "check") w then Some commands.Check else None)))))))
 
+unfoldable pub option_of_client : List ℕ → Option Command
+option_of_client w = if is_word (codes "--moments") w then Some commands.Moments else None
+
 abbrev pub command_of : List (List ℕ) → Option Command
 command_of (w ∷ []) = one_word w
+command_of (w ∷ o ∷ []) = if is_word (codes "client") w then option_of_client o else None
 command_of (w ∷ n ∷ s ∷ []) = if is_word (codes "make") w then made (number_word n) (number_word s) else None
 command_of _ = None

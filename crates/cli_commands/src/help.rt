@@ -8,6 +8,8 @@ A command reads its script from standard input and prints to standard output.
 
   replay        replays one run of an operation from a script of answers
   client        runs clients against a scripted outside
+  client --moments
+                the same, with the moments of the entries
   wait          runs a waiter over a script
   waiters       runs many waiters over a script, whose polls one bucket pays for
   fleet         runs clients in threads over one bucket

@@ -5,7 +5,7 @@ ghost use Rattle.cli_commands.specs.Words.{command_of};
 
 use crate::help::{HELP, VERSION};
 use crate::words::{Command, command_in};
-use cli_client::{ClientCommand, MakeCommand};
+use cli_client::{ClientCommand, MakeCommand, MomentsCommand};
 use cli_fleet::{Gate, OpenGate, answer_fleet};
 use cli_replay::command::Replay;
 use cli_shell::fixed::Fixed;
@@ -101,6 +101,7 @@ fn ended_alone<S: Source, K: Sink>(
         Some(Command::Version) => show(alloc, &Fixed { text: VERSION }, sink),
         Some(Command::Replay) => serve(alloc, &Replay, source, sink),
         Some(Command::Client) => serve(alloc, &ClientCommand, source, sink),
+        Some(Command::Moments) => serve(alloc, &MomentsCommand, source, sink),
         Some(Command::Wait) => serve(alloc, &WaitCommand, source, sink),
         Some(Command::Waiters) => serve(alloc, &WaitersCommand, source, sink),
         Some(Command::Fleet) => unreachable!(),

@@ -1,7 +1,7 @@
 //! The words of a command line.
 ghost use Rattle.std.specs.Prelude.{◌≡◌, Some};
 ghost use Rattle.cli_commands.specs.Words.{number_word, digits_number, with_digit, one_word};
-ghost use Rattle.cli_commands.specs.Words.{command_of};
+ghost use Rattle.cli_commands.specs.Words.{command_of, option_of_client};
 
 use smithy_types::Text;
 
@@ -16,6 +16,8 @@ pub enum Command {
     Replay,
     /// Runs clients against a scripted outside.
     Client,
+    /// The same, with the moments of the entries.
+    Moments,
     /// Runs a waiter.
     Wait,
     /// Runs many waiters under one bucket.
@@ -39,6 +41,7 @@ pub fn command_in(words: &[Text]) -> Option<Command>
 {
     match words {
         [word] => named_command(word.as_str()),
+        [word, option] if word.as_str() == "client" => option_of_client(option.as_str()),
         [word, count, seed] if word.as_str() == "make" => {
             let count = decimal(count.as_str().as_bytes())?;
             let seed = decimal(seed.as_str().as_bytes())?;
@@ -62,6 +65,17 @@ fn named_command(word: &str) -> Option<Command>
         "waiters" => Some(Command::Waiters),
         "fleet" => Some(Command::Fleet),
         "check" => Some(Command::Check),
+        _ => None,
+    }
+}
+
+// The command `client` with this option.
+#[tactic(auto, unfolding(crate::specs::Words::option_of_client))]
+fn option_of_client(option: &str) -> Option<Command>
+    ensures { result ≡ option_of_client option.now }
+{
+    match option {
+        "--moments" => Some(Command::Moments),
         _ => None,
     }
 }

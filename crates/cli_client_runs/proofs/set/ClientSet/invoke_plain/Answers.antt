@@ -2,7 +2,7 @@ use Rattle.std.proofs.Common.{◌≡◌, ◌∙◌, ap, refl, sym}
 use Rattle.std.specs.Prelude.{Some}
 use Rattle.std.proofs.lemmas.Option.{slice_get-get_or}
 use Rattle.std.proofs.lemmas.Result.{IfOk-weaker}
-use Rattle.cli_client_runs.proofs.set.ClientSet.invoke.Goals as goal
+use Rattle.cli_client_runs.proofs.set.ClientSet.invoke_plain.Goals as goal
 
 pub returns : goal.returns
 returns g c =
