@@ -4,7 +4,7 @@ use Rattle.stream_guard.specs.Logs.{Log, Keeps, SameSettings}
 use Rattle.stream_guard.specs.Report.{Came, Looked, report_of}
 use Rattle.stream_guard.specs.declared.report.ThroughputReport.{ThroughputReport}
 use Rattle.body_guard.specs.Events.{Sees, with_event}
-use Rattle.body_guard.specs.declared.polled.Polled.{Polled}
+use Rattle.smithy_types.specs.declared.polled.Polled.{Polled}
 
 -- a report by settings that are the same
 same_report : (old mid : Log) (came : List Came) (now : ℕ) → SameSettings old mid → report_of mid.start mid.resolution mid.complete came now ≡ report_of old.start old.resolution old.complete came now

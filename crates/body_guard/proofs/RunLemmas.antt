@@ -6,15 +6,15 @@ use Rattle.smithy_types.specs.declared.memory.OutOfMemory.{OutOfMemory}
 use Rattle.smithy_types.specs.declared.timers.TimersCall.{TimersCall}
 use Rattle.std.specs.Prelude.{Result}
 use Rattle.body_guard.specs.Download.{Judges, passed}
-use Rattle.body_guard.specs.Frames.{data_len}
+use Rattle.smithy_types.specs.Frames.{data_len}
 use Rattle.body_guard.specs.Length.{Enforces, HasReceived, at_length, guarded_from}
 use Rattle.body_guard.specs.Runs.{EnforcesStep, JudgedStep}
 use Rattle.body_guard.specs.declared.content_length.ContentLengthEnforcingBody.{ContentLengthEnforcingBody}
 use Rattle.body_guard.specs.declared.download.MinimumThroughputDownloadBody.{MinimumThroughputDownloadBody}
 use Rattle.body_guard.specs.declared.grace.GraceAnswer.{GraceAnswer}
 use Rattle.body_guard.specs.declared.grace.GraceAnswer.TheVariants.{InTime, NoSleep, Over}
-use Rattle.body_guard.specs.declared.polled.Polled.{Polled}
-use Rattle.body_guard.specs.declared.polled.Polled.TheVariants.{Pending, Data, Trailers, End, Failed}
+use Rattle.smithy_types.specs.declared.polled.Polled.{Polled}
+use Rattle.smithy_types.specs.declared.polled.Polled.TheVariants.{Pending, Data, Trailers, End, Failed}
 
 -- an end is answered as an end or as a failure
 no_end : (b : Bool) (failure : Fault) → Pending ≡ cond b End (Failed failure) → ⊥

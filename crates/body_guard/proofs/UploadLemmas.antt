@@ -6,8 +6,8 @@ use Rattle.stream_guard.specs.Logs.{Log, Keeps}
 use Rattle.stream_guard.specs.Report.{Came}
 use Rattle.body_guard.specs.Events.{with_event}
 use Rattle.body_guard.specs.Upload.{Notes, NotesEvent, completes, is_event}
-use Rattle.body_guard.specs.declared.polled.Polled.{Polled}
-use Rattle.body_guard.specs.declared.polled.Polled.TheVariants.{Pending, Data, Trailers, End, Failed}
+use Rattle.smithy_types.specs.declared.polled.Polled.{Polled}
+use Rattle.smithy_types.specs.declared.polled.Polled.TheVariants.{Pending, Data, Trailers, End, Failed}
 
 -- what is no event adds nothing
 pub no_event : (log : Log) (answer : Polled) → is_event answer ≡ false → NotesEvent log answer log []

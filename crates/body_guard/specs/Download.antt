@@ -7,15 +7,15 @@ use Rattle.stream_guard.specs.Logs.{Keeps}
 use Rattle.stream_guard.specs.declared.options.MinimumThroughputBodyOptions.{MinimumThroughputBodyOptions}
 use Rattle.stream_guard.specs.declared.report.ThroughputReport.{ThroughputReport}
 use Rattle.body_guard.specs.Events.{Sees}
-use Rattle.body_guard.specs.Frames.{ends}
+use Rattle.smithy_types.specs.Frames.{ends}
 use Rattle.body_guard.specs.Grace.{Grants}
 use Rattle.body_guard.specs.Rates.{download_rate, violation}
 use Rattle.body_guard.specs.Texts.{no_sleep, response_fault}
 use Rattle.body_guard.specs.declared.download.MinimumThroughputDownloadBody.{MinimumThroughputDownloadBody}
 use Rattle.body_guard.specs.declared.grace.GraceAnswer.{GraceAnswer}
 use Rattle.body_guard.specs.declared.grace.GraceAnswer.TheVariants.{InTime, NoSleep, Over}
-use Rattle.body_guard.specs.declared.polled.Polled.{Polled}
-use Rattle.body_guard.specs.declared.polled.Polled.TheVariants.{Failed}
+use Rattle.smithy_types.specs.declared.polled.Polled.{Polled}
+use Rattle.smithy_types.specs.declared.polled.Polled.TheVariants.{Failed}
 
 -- what is answered: the inner body's answer, or a failure in its place
 abbrev pub passed : Polled → Result GraceAnswer OutOfMemory → Result Polled OutOfMemory

@@ -3,8 +3,8 @@ use Rattle.std.specs.Prelude.{◌≡◌, ℕ, List, [], ◌∷◌, ◌++◌, len
 use Rattle.stream_guard.specs.Logs.{Log, Keeps, SameSettings}
 use Rattle.stream_guard.specs.Report.{Came, Transferred, Pending as PendingEvent, Looked, report_of}
 use Rattle.stream_guard.specs.declared.report.ThroughputReport.{ThroughputReport}
-use Rattle.body_guard.specs.declared.polled.Polled.{Polled}
-use Rattle.body_guard.specs.declared.polled.Polled.TheVariants.{Pending, Data}
+use Rattle.smithy_types.specs.declared.polled.Polled.{Polled}
+use Rattle.smithy_types.specs.declared.polled.Polled.TheVariants.{Pending, Data}
 
 -- data and pending are events, nothing else is
 abbrev pub with_event : List Came → ℕ → Polled → List Came

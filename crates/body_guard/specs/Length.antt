@@ -1,11 +1,11 @@
 -- Bodies that have to have the length that was declared.
 use Rattle.std.specs.Prelude.{◌≡◌, ℕ, ◌+◌, ◌-◌, ◌^◌, ◌==◌, min, if◌then◌else◌, List, [], ◌∷◌, Result, Ok, Err, IfOk}
 use Rattle.smithy_types.specs.declared.memory.OutOfMemory.{OutOfMemory}
-use Rattle.body_guard.specs.Frames.{data_len}
+use Rattle.smithy_types.specs.Frames.{data_len}
 use Rattle.body_guard.specs.Texts.{length_text, response_fault}
 use Rattle.body_guard.specs.declared.content_length.ContentLengthEnforcingBody.{ContentLengthEnforcingBody}
-use Rattle.body_guard.specs.declared.polled.Polled.{Polled}
-use Rattle.body_guard.specs.declared.polled.Polled.TheVariants.{End, Failed}
+use Rattle.smithy_types.specs.declared.polled.Polled.{Polled}
+use Rattle.smithy_types.specs.declared.polled.Polled.TheVariants.{End, Failed}
 
 -- what the end becomes after so many bytes of data, where n were declared
 abbrev pub at_length_end : ℕ → ℕ → Polled

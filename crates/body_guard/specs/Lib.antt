@@ -1,7 +1,6 @@
 pub mod Declaring
 pub mod Download
 pub mod Events
-pub mod Frames
 pub mod Grace
 pub mod Length
 pub mod Protection

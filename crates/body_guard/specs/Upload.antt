@@ -20,8 +20,8 @@ use Rattle.body_guard.specs.Rates.{upload_rate, violation}
 use Rattle.body_guard.specs.Protection.{standing_stall}
 use Rattle.body_guard.specs.declared.grace.GraceAnswer.{GraceAnswer}
 use Rattle.body_guard.specs.declared.grace.GraceAnswer.TheVariants.{InTime, NoSleep, Over}
-use Rattle.body_guard.specs.declared.polled.Polled.{Polled}
-use Rattle.body_guard.specs.declared.polled.Polled.TheVariants.{Pending, Data, End, Failed}
+use Rattle.smithy_types.specs.declared.polled.Polled.{Polled}
+use Rattle.smithy_types.specs.declared.polled.Polled.TheVariants.{Pending, Data, End, Failed}
 use Rattle.body_guard.specs.declared.upload.MaybeUploadThroughputCheck.{MaybeUploadThroughputCheck}
 use Rattle.body_guard.specs.declared.upload.MaybeUploadThroughputCheck.TheVariants.{Checked, Direct}
 use Rattle.body_guard.specs.declared.upload.ThroughputReadingBody.{ThroughputReadingBody}

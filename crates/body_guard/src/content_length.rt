@@ -1,12 +1,12 @@
 //! Bodies that have to have the length that was declared.
 ghost use Rattle.std.specs.Prelude.{◌≡◌, ◌^◌, ◌-◌, ℕ, IfOk, min};
-ghost use Rattle.body_guard.specs.Frames.{data_len};
+ghost use Rattle.smithy_types.specs.Frames.{data_len};
 ghost use Rattle.body_guard.specs.Length.{Enforces, HasReceived, at_length_end};
 ghost use Rattle.body_guard.specs.Texts.{length_text, response_fault};
 
+use crate::PolledBody;
 use crate::faults::response_fault;
-use crate::{Polled, PolledBody};
-use smithy_types::{Fault, OutOfMemory, Text};
+use smithy_types::{Fault, OutOfMemory, Polled, Text};
 use std::alloc::Global;
 use std::error::Error;
 use std::fmt;

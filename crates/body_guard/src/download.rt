@@ -7,8 +7,8 @@ ghost use Rattle.body_guard.specs.Grace.{give_up_calls};
 use crate::events::see;
 use crate::faults::{no_sleep, response_fault};
 use crate::rates::download_rate;
-use crate::{Grace, GraceAnswer, Polled, PolledBody};
-use smithy_types::{OutOfMemory, Timers};
+use crate::{Grace, GraceAnswer, PolledBody};
+use smithy_types::{OutOfMemory, Polled, Timers};
 use std::alloc::Global;
 use stream_guard::{MinimumThroughputBodyOptions, ThroughputLogs};
 

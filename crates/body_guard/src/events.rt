@@ -4,7 +4,7 @@ ghost use Rattle.stream_guard.specs.Logs.{Keeps, SameSettings};
 ghost use Rattle.stream_guard.specs.Report.{Came};
 ghost use Rattle.body_guard.specs.Events.{Sees, with_event};
 
-use crate::Polled;
+use smithy_types::Polled;
 use stream_guard::{ThroughputLogs, ThroughputReport};
 
 /// Adds the event of an answer, where it is one: bytes, or nothing yet.

@@ -11,7 +11,7 @@ ghost use Rattle.body_guard.specs.declared.content_length.ContentLengthEnforcing
 ghost use Rattle.body_guard.specs.declared.download.MinimumThroughputDownloadBody.{
   MinimumThroughputDownloadBody,
 };
-ghost use Rattle.body_guard.specs.declared.polled.Polled.{Polled};
+ghost use Rattle.smithy_types.specs.declared.polled.Polled.{Polled};
 
 use crate::PolledBody;
 

@@ -21,7 +21,7 @@ pub use enforce_length::{EnforceContentLengthInterceptor, EnforceContentLengthRu
 pub use faults::ThroughputBelowMinimum;
 pub use grace::{Grace, GraceAnswer};
 pub use length::{LengthFault, extract_content_length};
-pub use polled::{NoBody, Polled, PolledBody};
+pub use polled::{NoBody, PolledBody};
 pub use stalled_stream::{
     StalledStreamProtectionInterceptor, StalledStreamProtectionInterceptorKind,
 };

@@ -1,61 +1,13 @@
 //! Bodies that are read frame by frame.
 ghost use Rattle.std.specs.Prelude.{◌≡◌, true, Some, Ok};
-ghost use Rattle.body_guard.specs.Frames.{ends, data_len};
 
-use smithy_types::{Blob, Fault, OutOfMemory};
+use smithy_types::{OutOfMemory, Polled};
 use std::alloc::Global;
-
-/// What a poll of a body answers.
-#[derive(Debug)]
-pub enum Polled {
-    /// Nothing yet.
-    Pending,
-    /// The next bytes, be it none.
-    Data(Blob),
-    /// The trailers, which aren't read.
-    Trailers,
-    /// There is nothing more.
-    End,
-    /// The body can't be read on.
-    Failed(Fault),
-}
-
-// Written out, so that a drop is one call wherever an answer is dropped.
-impl Drop for Polled {
-    fn drop(self) {
-        match self {
-            Polled::Pending => {}
-            Polled::Data(_) => {}
-            Polled::Trailers => {}
-            Polled::End => {}
-            Polled::Failed(_) => {}
-        }
-    }
-}
-
-impl Polled {
-    /// Whether the body is over with this, well or not.
-    pub fn ends(&self) -> bool
-        ensures { result ≡ ends self.now }
-    {
-        matches!(self, Polled::End | Polled::Failed(_))
-    }
-
-    /// How many bytes of data there are.
-    pub fn data_len(&self) -> u64
-        ensures { result ≡ data_len self.now }
-    {
-        match self {
-            Polled::Data(bytes) => bytes.len() as u64,
-            _ => 0,
-        }
-    }
-}
 
 /// A body that is read frame by frame. A poll never waits.
 pub trait PolledBody: Drop {
     ghost use Rattle.std.specs.Prelude.{◌≡◌, ℕ, Bool, Option, Result};
-    ghost use Rattle.body_guard.specs.declared.polled.Polled.{Polled};
+    ghost use Rattle.smithy_types.specs.declared.polled.Polled.{Polled};
     ghost use Rattle.smithy_types.specs.declared.memory.OutOfMemory.{OutOfMemory};
 
     /// What a poll may make of the body: the body before it, the answer, and the body after it.
@@ -86,7 +38,7 @@ pub struct NoBody;
 
 impl PolledBody for NoBody {
     ghost use Rattle.std.specs.Prelude.{◌≡◌, true, Some, Ok};
-    ghost use Rattle.body_guard.specs.declared.polled.Polled.TheVariants.{End};
+    ghost use Rattle.smithy_types.specs.declared.polled.Polled.TheVariants.{End};
 
     ghost polls = { λ old answer new. (answer ≡ Ok End) × (new ≡ old) };
 

@@ -20,10 +20,11 @@ ghost use Rattle.body_guard.specs.Upload.{
 use crate::events::push_event;
 use crate::rates::upload_rate;
 use crate::stalled_stream::standing_stall;
-use crate::{Grace, GraceAnswer, Polled, PolledBody};
+use crate::{Grace, GraceAnswer, PolledBody};
 use smithy_context::{SettingKey, Settings};
 use smithy_types::{
-    ConnectorKind, Fault, FaultKind, OutOfMemory, StalledStreamProtectionConfig, Text, Timers,
+    ConnectorKind, Fault, FaultKind, OutOfMemory, Polled, StalledStreamProtectionConfig, Text,
+    Timers,
 };
 use std::alloc::Global;
 use stream_guard::{MinimumThroughputBodyOptions, ThroughputLogs};

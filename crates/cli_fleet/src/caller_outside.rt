@@ -4,10 +4,10 @@ ghost use Rattle.cli_client.specs.Opening.{outside_at};
 
 use crate::gate::Gate;
 use crate::gated::GatedOutside;
-use outside::{IdentityPoll, Outside, Polled, Sent};
+use outside::{IdentityPoll, Outside, Sent};
 use outside_scripted::{IdentityRecord, ResponseRecord};
 use smithy_context::Settings;
-use smithy_types::{HttpRequest, List, OutOfMemory, Shared, Timers};
+use smithy_types::{HttpRequest, List, OutOfMemory, Polled, Shared, Timers};
 use std::alloc::Global;
 use std::marker::Model;
 

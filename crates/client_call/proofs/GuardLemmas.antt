@@ -8,7 +8,7 @@ use Rattle.stream_guard.specs.declared.options.MinimumThroughputBodyOptions.{Min
 use Rattle.body_guard.specs.Download.{Judges, Starts}
 use Rattle.body_guard.specs.Length.{Enforces}
 use Rattle.body_guard.specs.declared.polled.NoBody.{NoBody}
-use Rattle.body_guard.specs.declared.polled.Polled.{Polled}
+use Rattle.smithy_types.specs.declared.polled.Polled.{Polled}
 use Rattle.client_call.specs.declared.guards.Guards.{Guards}
 use Rattle.client_call.specs.Guarding.{GuardsThroughput, LengthGuard, LengthPasses, Passes, ThroughputGuard, ThroughputPasses}
 use Rattle.client_call.proofs.ChainLemmas.{timed}

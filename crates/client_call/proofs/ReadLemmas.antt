@@ -6,9 +6,9 @@ use Rattle.smithy_types.proofs.ChainLemmas.{chained_join, chained_more}
 use Rattle.smithy_types.specs.declared.http.HttpResponse.{HttpResponse}
 use Rattle.smithy_types.specs.declared.memory.OutOfMemory.{OutOfMemory}
 use Rattle.outside.specs.Calls.{OutsideCall, Frame}
-use Rattle.outside.specs.declared.answers.Polled.{Polled as OutsidePolled}
-use Rattle.body_guard.specs.Frames.{ends}
-use Rattle.body_guard.specs.declared.polled.Polled.{Polled}
+use Rattle.smithy_types.specs.declared.polled.Polled.{Polled as OutsidePolled}
+use Rattle.smithy_types.specs.Frames.{ends}
+use Rattle.smithy_types.specs.declared.polled.Polled.{Polled}
 use Rattle.run_grammar.specs.declared.answer.Answer.{Answer}
 use Rattle.client_call.specs.declared.call.Call.{Call}
 use Rattle.client_call.specs.declared.call.Call.TheVariants.{Reading as TheReading}

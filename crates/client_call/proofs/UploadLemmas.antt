@@ -9,7 +9,7 @@ use Rattle.outside.specs.Calls.{OutsideCall, OfTimers}
 use Rattle.stream_guard.specs.Logs.{Keeps, Log, empty_log}
 use Rattle.stream_guard.specs.declared.options.MinimumThroughputBodyOptions.{MinimumThroughputBodyOptions}
 use Rattle.body_guard.specs.Upload.{Checks, FollowsNoted, PollsNoted}
-use Rattle.body_guard.specs.declared.polled.Polled.{Polled}
+use Rattle.smithy_types.specs.declared.polled.Polled.{Polled}
 use Rattle.body_guard.specs.declared.upload.ThroughputReadingBody.{ThroughputReadingBody}
 use Rattle.body_guard.specs.declared.upload.UploadThroughputCheck.{UploadThroughputCheck}
 use Rattle.client_call.specs.declared.upload.Upload.{Upload}

@@ -7,18 +7,18 @@ use Rattle.smithy_types.specs.declared.http.HttpResponse.{HttpResponse}
 use Rattle.smithy_types.specs.declared.memory.OutOfMemory.{OutOfMemory}
 use Rattle.smithy_types.specs.declared.timers.TimersCall.{TimersCall}
 use Rattle.outside.specs.Calls.{OutsideCall, OfTimers, Begin, Poll, Frame, DropCall, Resolve, DropResolve, Word, Poison, Park}
-use Rattle.outside.specs.declared.answers.Polled.{Polled as OutsidePolled}
-use Rattle.outside.specs.declared.answers.Polled.TheVariants as polls
+use Rattle.smithy_types.specs.declared.polled.Polled.{Polled as OutsidePolled}
+use Rattle.smithy_types.specs.declared.polled.Polled.TheVariants as polls
 use Rattle.stream_guard.specs.declared.options.MinimumThroughputBodyOptions.{MinimumThroughputBodyOptions}
 use Rattle.body_guard.specs.Download.{Judges, passed as passed_by}
-use Rattle.body_guard.specs.Frames.{data_len}
+use Rattle.smithy_types.specs.Frames.{data_len}
 use Rattle.body_guard.specs.Length.{at_length}
 use Rattle.body_guard.specs.Texts.{length_text, no_sleep, response_fault}
 use Rattle.body_guard.specs.declared.grace.GraceAnswer.{GraceAnswer}
 use Rattle.body_guard.specs.declared.grace.GraceAnswer.TheVariants.{InTime, NoSleep, Over}
 use Rattle.body_guard.specs.declared.length.LengthFault.{LengthFault}
-use Rattle.body_guard.specs.declared.polled.Polled.{Polled}
-use Rattle.body_guard.specs.declared.polled.Polled.TheVariants.{Pending, Data, Trailers, End, Failed}
+use Rattle.smithy_types.specs.declared.polled.Polled.{Polled}
+use Rattle.smithy_types.specs.declared.polled.Polled.TheVariants.{Pending, Data, Trailers, End, Failed}
 use Rattle.run_grammar.specs.declared.answer.Answer.{Answer}
 use Rattle.run_grammar.specs.declared.answer.Answer.TheVariants as answers
 use Rattle.client_call.specs.declared.call.Call.{Call}

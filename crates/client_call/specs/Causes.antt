@@ -8,8 +8,8 @@ use Rattle.smithy_types.specs.declared.kinds.ConnectorKind.{ConnectorKind}
 use Rattle.smithy_types.specs.declared.memory.OutOfMemory.{OutOfMemory}
 use Rattle.smithy_types.specs.declared.timers.TimersCall.TheVariants.{Ready}
 use Rattle.outside.specs.Calls.{OutsideCall, OfTimers, Frame, Poll}
-use Rattle.outside.specs.declared.answers.Polled.{Polled}
-use Rattle.outside.specs.declared.answers.Polled.TheVariants as polled
+use Rattle.smithy_types.specs.declared.polled.Polled.{Polled}
+use Rattle.smithy_types.specs.declared.polled.Polled.TheVariants as polled
 use Rattle.outside.specs.declared.answers.Sent.TheVariants as sents
 use Rattle.stream_guard.specs.Logs.{Keeps}
 use Rattle.stream_guard.specs.Report.{Came}

@@ -1,9 +1,9 @@
 -- The frames of a body: what each adds to its bytes, and how an ask stops.
 use Rattle.std.specs.Prelude.{ℕ, ◌+◌, Bool, nat_le, if◌then◌else◌, List, [], ◌++◌, length, Option, None, Some}
-use Rattle.outside.specs.declared.answers.Polled.{Polled as OutsidePolled}
-use Rattle.outside.specs.declared.answers.Polled.TheVariants as frames
-use Rattle.body_guard.specs.declared.polled.Polled.{Polled}
-use Rattle.body_guard.specs.declared.polled.Polled.TheVariants as polled
+use Rattle.smithy_types.specs.declared.polled.Polled.{Polled as OutsidePolled}
+use Rattle.smithy_types.specs.declared.polled.Polled.TheVariants as frames
+use Rattle.smithy_types.specs.declared.polled.Polled.{Polled}
+use Rattle.smithy_types.specs.declared.polled.Polled.TheVariants as polled
 use Rattle.client_call.specs.declared.reading.Stop.{Stop}
 use Rattle.client_call.specs.declared.reading.Stop.TheVariants.{Pending, End, Failed, TooLong}
 

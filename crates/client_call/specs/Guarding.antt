@@ -13,7 +13,7 @@ use Rattle.body_guard.specs.declared.content_length.ContentLengthEnforcingBody.{
 use Rattle.body_guard.specs.declared.download.MinimumThroughputDownloadBody.{MinimumThroughputDownloadBody}
 use Rattle.body_guard.specs.declared.length.LengthFault.{LengthFault}
 use Rattle.body_guard.specs.declared.polled.NoBody.{NoBody}
-use Rattle.body_guard.specs.declared.polled.Polled.{Polled}
+use Rattle.smithy_types.specs.declared.polled.Polled.{Polled}
 use Rattle.client_call.specs.declared.guards.Guards.{Guards}
 use Rattle.client_call.specs.Protection.{download_options, enforces_length, standing_stall}
 

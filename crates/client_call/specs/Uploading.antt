@@ -11,8 +11,8 @@ use Rattle.stream_guard.specs.Logs.{Keeps}
 use Rattle.stream_guard.specs.Report.{Came, Transferred}
 use Rattle.stream_guard.specs.declared.options.MinimumThroughputBodyOptions.{MinimumThroughputBodyOptions}
 use Rattle.body_guard.specs.Upload.{Checks}
-use Rattle.body_guard.specs.declared.polled.Polled.{Polled}
-use Rattle.body_guard.specs.declared.polled.Polled.TheVariants.{Data, End}
+use Rattle.smithy_types.specs.declared.polled.Polled.{Polled}
+use Rattle.smithy_types.specs.declared.polled.Polled.TheVariants.{Data, End}
 use Rattle.client_call.specs.declared.upload.Upload.{Upload}
 use Rattle.client_call.specs.declared.whole_body.WholeBody.{WholeBody}
 

@@ -2,9 +2,9 @@
 //! the length that a response declares, and how a body of another length ends.
 
 use anyhow::Result;
-use body_guard::{ContentLengthEnforcingBody, NoBody, Polled, extract_content_length};
+use body_guard::{ContentLengthEnforcingBody, NoBody, extract_content_length};
 use http_header::{HeaderMap, HeaderValue};
-use smithy_types::{Blob, Body, BuildError, Headers, HttpResponse, OutOfMemory};
+use smithy_types::{Blob, Body, BuildError, Headers, HttpResponse, OutOfMemory, Polled};
 use std::alloc::Global;
 use stream_guard::{BinLabel, Throughput, ThroughputLogs, ThroughputReport};
 

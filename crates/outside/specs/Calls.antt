@@ -5,7 +5,7 @@ use Rattle.smithy_types.specs.declared.http.HttpRequest.{HttpRequest}
 use Rattle.smithy_types.specs.declared.memory.OutOfMemory.{OutOfMemory}
 use Rattle.smithy_types.specs.declared.timers.TimersCall.{TimersCall}
 use Rattle.outside.specs.declared.answers.IdentityPoll.{IdentityPoll}
-use Rattle.outside.specs.declared.answers.Polled.{Polled}
+use Rattle.smithy_types.specs.declared.polled.Polled.{Polled}
 use Rattle.outside.specs.declared.answers.Sent.{Sent}
 
 -- each with what it was handed and what it answered

@@ -4,8 +4,8 @@ use Rattle.smithy_types.specs.declared.memory.OutOfMemory.{OutOfMemory}
 use Rattle.outside.specs.Calls.{OutsideCall, Poll, Frame, Resolve}
 use Rattle.outside.specs.declared.answers.IdentityPoll.{IdentityPoll}
 use Rattle.outside.specs.declared.answers.IdentityPoll.TheVariants as identity
-use Rattle.outside.specs.declared.answers.Polled.{Polled}
-use Rattle.outside.specs.declared.answers.Polled.TheVariants as polled
+use Rattle.smithy_types.specs.declared.polled.Polled.{Polled}
+use Rattle.smithy_types.specs.declared.polled.Polled.TheVariants as polled
 use Rattle.outside.specs.declared.answers.Sent.{Sent}
 use Rattle.outside.specs.declared.answers.Sent.TheVariants as sent
 

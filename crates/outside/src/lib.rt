@@ -6,6 +6,6 @@ pub mod answers;
 pub mod clock;
 pub mod outside;
 
-pub use answers::{IdentityPoll, Polled, Sent};
+pub use answers::{IdentityPoll, Sent};
 pub use clock::present;
 pub use outside::Outside;

@@ -1,8 +1,8 @@
 //! The outside of a client.
 
-use crate::answers::{IdentityPoll, Polled, Sent};
+use crate::answers::{IdentityPoll, Sent};
 use smithy_context::Settings;
-use smithy_types::{HttpRequest, OutOfMemory, Timers};
+use smithy_types::{HttpRequest, OutOfMemory, Polled, Timers};
 use std::alloc::Global;
 
 /// What a client sends by, waits by and draws from. Each call answers at once: what isn't there yet
@@ -11,7 +11,7 @@ use std::alloc::Global;
 /// A call that is open is one that was begun, until its poll or its body fails, its body ends, it
 /// is dropped, or the next one is begun.
 pub trait Outside: Timers {
-    ghost use Rattle.std.specs.Prelude.{◌≡◌, ℕ};
+    ghost use Rattle.std.specs.Prelude.{◌≡◌, ℕ, ◌↔◌, IsSome, IsTrue, Ok, Option};
     ghost use Rattle.smithy_types.specs.declared.timers.TimersCall.{TimersCall};
     ghost use Rattle.outside.specs.Calls.{OutsideCall, OfTimers, Begin, Poll, Frame, DropCall};
     ghost use Rattle.outside.specs.Calls.{Resolve, DropResolve, Word, Poison, Park};
@@ -73,6 +73,11 @@ pub trait Outside: Timers {
     /// Whether there are sleeps never changes.
     ghost sleeps_stay: { (old : Self) (call : OutsideCall) (new : Self) → makes old call new →
         Self.sleeps new ≡ Self.sleeps old };
+
+    /// What a start answers is a sleep exactly where there are sleeps.
+    ghost sleep_is_started: { (old : Self) (nanos : ℕ) (sleep : Option ℕ) (new : Self) →
+        makes old (OfTimers (TimersCall.Start nanos (Ok sleep))) new →
+        IsSome sleep ↔ IsTrue (Self.sleeps old) };
 
     /// Each failure that is handed out is counted.
     ghost counts: { (old : Self) (call : OutsideCall) (new : Self) → makes old call new →

@@ -2,8 +2,8 @@
 use Rattle.std.proofs.Common.{◌≡◌, ℕ, ◌≤◌, ◌<◌, inl, inr, Bool, true, false, nat_le, List, Option, None, Some, MatchBool, sym, ◌∙◌, arith, slice_get}
 use Rattle.outside.specs.declared.answers.IdentityPoll.{IdentityPoll}
 use Rattle.outside.specs.declared.answers.IdentityPoll.TheVariants as identity
-use Rattle.outside.specs.declared.answers.Polled.{Polled}
-use Rattle.outside.specs.declared.answers.Polled.TheVariants as polled
+use Rattle.smithy_types.specs.declared.polled.Polled.{Polled}
+use Rattle.smithy_types.specs.declared.polled.Polled.TheVariants as polled
 use Rattle.outside.specs.declared.answers.Sent.{Sent}
 use Rattle.outside_scripted.specs.declared.call.OpenBody.{OpenBody}
 use Rattle.outside_scripted.specs.declared.call.OpenCall.{OpenCall}

@@ -1,7 +1,7 @@
 -- The open call, and what it gives at a moment.
 use Rattle.std.specs.Prelude.{◌≡◌, ℕ, ◌+◌, ◌==◌, ◌&&◌, nat_le, if◌then◌else◌, length, Option, None, Some, option_map, slice_get, MatchBool, codes}
-use Rattle.outside.specs.declared.answers.Polled.{Polled}
-use Rattle.outside.specs.declared.answers.Polled.TheVariants.{Pending, Data, End}
+use Rattle.smithy_types.specs.declared.polled.Polled.{Polled}
+use Rattle.smithy_types.specs.declared.polled.Polled.TheVariants.{Pending, Data, End}
 use Rattle.outside_scripted.specs.declared.call.OpenBody.{OpenBody}
 use Rattle.outside_scripted.specs.declared.call.OpenCall.{OpenCall}
 use Rattle.outside_scripted.specs.declared.call.OpenCall.TheVariants.{Idle, Waiting, Streaming}

@@ -8,8 +8,8 @@ use Rattle.outside.specs.Calls.{OutsideCall, OfTimers, Begin, Poll, Frame, DropC
 use Rattle.outside.specs.Faults.{Counts, HasRisen, hands_out_failure}
 use Rattle.outside.specs.declared.answers.IdentityPoll.{IdentityPoll}
 use Rattle.outside.specs.declared.answers.IdentityPoll.TheVariants as identity
-use Rattle.outside.specs.declared.answers.Polled.{Polled}
-use Rattle.outside.specs.declared.answers.Polled.TheVariants as polled
+use Rattle.smithy_types.specs.declared.polled.Polled.{Polled}
+use Rattle.smithy_types.specs.declared.polled.Polled.TheVariants as polled
 use Rattle.outside.specs.declared.answers.Sent.{Sent}
 use Rattle.smithy_types.specs.declared.timers.TimersCall.{TimersCall}
 use Rattle.smithy_types.specs.declared.timers.TimersCall.TheVariants.{Now, Start, Ready, GiveUp}

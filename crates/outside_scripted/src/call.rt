@@ -6,8 +6,7 @@ ghost use Rattle.outside_scripted.specs.Call.{coming, following, Flows, Gives};
 ghost use Rattle.outside_scripted.specs.Time.{later};
 
 use crate::records::{Frame, RecordAnswer};
-use outside::Polled;
-use smithy_types::{List, OutOfMemory};
+use smithy_types::{List, OutOfMemory, Polled};
 use std::mem;
 
 /// The body of a response that was handed out.

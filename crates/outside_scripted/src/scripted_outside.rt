@@ -11,10 +11,10 @@ use crate::records::{
 use crate::sleeps::Sleeps;
 use crate::wake::{earliest, sooner_of, woken};
 use crate::words::Words;
-use outside::{IdentityPoll, Outside, Polled, Sent};
+use outside::{IdentityPoll, Outside, Sent};
 use smithy_context::Settings;
 use smithy_types::{
-    Body, ConnectorKind, HttpRequest, HttpResponse, List, OutOfMemory, Shared, Text, Timers,
+    Body, ConnectorKind, HttpRequest, HttpResponse, List, OutOfMemory, Polled, Shared, Text, Timers,
 };
 use std::alloc::Global;
 

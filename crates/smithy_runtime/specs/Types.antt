@@ -125,7 +125,7 @@ pub use Rattle.identity_cell.specs.declared.scheme_id.SchemeId
 pub use Rattle.identity_cell.specs.declared.identity_cache.SharedIdentityCache
 pub use Rattle.outside.specs.declared.answers.IdentityPoll
 pub use Rattle.outside.specs.declared.outside.Outside
-pub use Rattle.outside.specs.declared.answers.Polled
+pub use Rattle.smithy_types.specs.declared.polled.Polled
 pub use Rattle.outside.specs.declared.answers.Sent
 pub use Rattle.outside_scripted.specs.declared.records.Frame
 pub use Rattle.outside_scripted.specs.declared.records.IdentityAnswer

@@ -6,8 +6,8 @@
 // What a model and a protocol are made of.
 pub use smithy_types::{
     Blob, Body, Endpoint, EndpointHeader, ErrorKind, Fault, FaultKind, Headers, HttpRequest,
-    HttpResponse, Identity, List, OutOfMemory, Outcome, Payload, Phase, ProvideErrorKind, SdkError,
-    Shared, Text, Wire,
+    HttpResponse, Identity, List, OutOfMemory, Outcome, Payload, Phase, Polled, ProvideErrorKind,
+    SdkError, Shared, Text, Wire,
 };
 pub use text_payloads::{read_text, text_payload};
 
@@ -72,7 +72,7 @@ pub use identity_cell::{
 };
 
 // What lies outside of a client: the connector, sleeps and clock, and sources of identities.
-pub use outside::{IdentityPoll, Outside, Polled, Sent};
+pub use outside::{IdentityPoll, Outside, Sent};
 pub use outside_scripted::{
     Frame, IdentityAnswer, IdentityRecord, RecordAnswer, ResponseRecord, Row, ScriptedOutside,
     ScriptedResponse, service,

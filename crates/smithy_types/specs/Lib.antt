@@ -7,3 +7,5 @@ pub mod Config
 pub mod Content
 pub mod TextContent
 pub mod Hooks
+pub mod Frames
+pub mod Starting

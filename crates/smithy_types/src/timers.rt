@@ -29,7 +29,7 @@ pub enum TimersCall {
 
 /// A clock, and sleeps that are started and asked. Nothing here waits.
 pub trait Timers {
-    ghost use Rattle.std.specs.Prelude.{ℕ, Bool, Option};
+    ghost use Rattle.std.specs.Prelude.{ℕ, Bool, Ok, Option};
     ghost use Rattle.smithy_types.specs.declared.timers.TimersCall.{TimersCall};
 
     /// The present moment, where the timers tell it.
@@ -68,4 +68,12 @@ pub trait Timers {
     fn give_up(&mut self, sleep: u64)
         ensures same_sleeps { sleeps self.new ≡ sleeps self.old }
         ensures related { relates self.old (TimersCall.GiveUp sleep) self.new };
+
+    /// No call changes whether there are sleeps.
+    ghost keeps_sleeps: { (old : Self) (call : TimersCall) (new : Self) → relates old call new →
+        sleeps new ≡ sleeps old };
+
+    /// What a start answers is a sleep exactly where there are sleeps.
+    ghost starts_where_sleeps: { (old : Self) (nanos : ℕ) (sleep : Option ℕ) (new : Self) →
+        relates old (TimersCall.Start nanos (Ok sleep)) new → IsSome sleep ↔ IsTrue (sleeps old) };
 }

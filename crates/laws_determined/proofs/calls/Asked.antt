@@ -1,7 +1,7 @@
 -- Asks of a call are determined.
 use Rattle.std.proofs.Common.{◌≡◌, ◌∙◌, refl, sym, ap, subst, ℕ, ◌+◌, ◌<◌, ◌≤◌, Bool, true, false, arith, inl, inr, List, ◌++◌, ◌∷◌, [], map, Option, None, Some, Ok, append_assoc, length}
 use Rattle.std.proofs.lemmas.List.{append-nil}
-use Rattle.body_guard.specs.Frames.{ends}
+use Rattle.smithy_types.specs.Frames.{ends}
 use Rattle.body_guard.specs.Grace.{give_up_calls}
 use Rattle.client_call.specs.Ending.{quieting}
 use Rattle.client_call.specs.Frames.{gathered, polled_of, stop_of}

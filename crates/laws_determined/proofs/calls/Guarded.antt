@@ -3,7 +3,7 @@ use Rattle.std.proofs.Common.{◌≡◌, ◌∙◌, refl, sym, ap, subst, ℕ, �
 use Rattle.body_guard.specs.Declaring.{DeclaresLength, ReadsLength, lengths}
 use Rattle.body_guard.specs.Download.{Judges, JudgesBy, LooksAt, passed}
 use Rattle.body_guard.specs.Events.{with_event}
-use Rattle.body_guard.specs.Frames.{data_len, ends}
+use Rattle.smithy_types.specs.Frames.{data_len, ends}
 use Rattle.body_guard.specs.Length.{Enforces, HasReceived, at_length}
 use Rattle.body_guard.specs.Grace.{Grants}
 use Rattle.body_guard.specs.Rates.{download_rate, upload_rate, violation}
@@ -11,7 +11,7 @@ use Rattle.body_guard.specs.Upload.{upload_answer}
 use Rattle.body_guard.specs.declared.grace.GraceAnswer.{GraceAnswer}
 use Rattle.body_guard.specs.declared.length.LengthFault.{LengthFault}
 use Rattle.body_guard.specs.declared.length.LengthFault.TheVariants.{Multiple, NotANumber}
-use Rattle.body_guard.specs.declared.polled.Polled.{Polled}
+use Rattle.smithy_types.specs.declared.polled.Polled.{Polled}
 use Rattle.client_call.specs.Guarding.{GuardsLength, GuardsThroughput, HoldsTo, LengthGuard, LengthPasses, Passes, SetsUp, ThroughputGuard, ThroughputPasses}
 use Rattle.client_call.specs.Protection.{download_options, enforces_length, standing_stall}
 use Rattle.client_call.specs.Uploading.{Looks, Watches, came_calls, came_of}

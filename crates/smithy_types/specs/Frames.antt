@@ -1,7 +1,7 @@
 -- What the answers of a body's polls are.
 use Rattle.std.specs.Prelude.{ℕ, Bool, true, false, List, length, sum_by}
-use Rattle.body_guard.specs.declared.polled.Polled.{Polled}
-use Rattle.body_guard.specs.declared.polled.Polled.TheVariants.{Data, End, Failed}
+use Rattle.smithy_types.specs.declared.polled.Polled.{Polled}
+use Rattle.smithy_types.specs.declared.polled.Polled.TheVariants.{Data, End, Failed}
 
 -- whether a body is over with this answer
 abbrev pub ends : Polled → Bool
