@@ -59,7 +59,9 @@ impl<'g, G: Gate> CallerOutside<'g, G> {
 }
 
 impl<'g, G: Gate> Timers for CallerOutside<'g, G> {
-    ghost use Rattle.std.specs.Prelude.{Some, true};
+    ghost use Rattle.std.specs.Prelude.{Some, refl, true};
+    ghost use Rattle.smithy_types.specs.Starting.{is_started};
+    ghost use Rattle.outside_scripted.specs.Time.{later};
     ghost use Rattle.outside_scripted.specs.Makes.{Ticks};
 
     ghost moment = { λ s. Some s.moment };
@@ -87,10 +89,17 @@ impl<'g, G: Gate> Timers for CallerOutside<'g, G> {
     fn give_up(&mut self, sleep: u64) {
         self.gated.give_up(sleep);
     }
+
+    ghost keeps_sleeps = { λ old call new made. refl };
+
+    ghost starts_where_sleeps = { λ old nanos sleep new made. is_started (later old.moment nanos) sleep
+        made.0 };
 }
 
 impl<'g, G: Gate> Outside for CallerOutside<'g, G> {
     ghost use Rattle.std.specs.Prelude.{refl};
+    ghost use Rattle.smithy_types.specs.Starting.{is_started};
+    ghost use Rattle.outside_scripted.specs.Time.{later};
     ghost use Rattle.outside_scripted.specs.Makes.{Makes};
     ghost use Rattle.outside_scripted.specs.Counting.{each_failure_is_counted};
 
@@ -142,6 +151,9 @@ impl<'g, G: Gate> Outside for CallerOutside<'g, G> {
     ghost timers_make = { λ old call new made. made };
 
     ghost sleeps_stay = { λ old call new made. refl };
+
+    ghost sleep_is_started = { λ old nanos sleep new made. is_started (later old.moment nanos) sleep
+        made.0 };
 
     ghost counts = { each_failure_is_counted };
 }

@@ -76,7 +76,9 @@ impl<'g, G: Gate> GatedOutside<'g, G> {
 }
 
 impl<'g, G: Gate> Timers for GatedOutside<'g, G> {
-    ghost use Rattle.std.specs.Prelude.{Some, true};
+    ghost use Rattle.std.specs.Prelude.{Some, refl, true};
+    ghost use Rattle.smithy_types.specs.Starting.{is_started};
+    ghost use Rattle.outside_scripted.specs.Time.{later};
     ghost use Rattle.outside.specs.Calls.{OfTimers};
     ghost use Rattle.cli_fleet.specs.Gated.{Passes};
 
@@ -105,10 +107,17 @@ impl<'g, G: Gate> Timers for GatedOutside<'g, G> {
     fn give_up(&mut self, sleep: u64) {
         self.outside.give_up(sleep);
     }
+
+    ghost keeps_sleeps = { λ old call new made. refl };
+
+    ghost starts_where_sleeps = { λ old nanos sleep new passes.
+        is_started (later old.outside.moment nanos) sleep passes.made.0 };
 }
 
 impl<'g, G: Gate> Outside for GatedOutside<'g, G> {
     ghost use Rattle.std.specs.Prelude.{refl};
+    ghost use Rattle.smithy_types.specs.Starting.{is_started};
+    ghost use Rattle.outside_scripted.specs.Time.{later};
     ghost use Rattle.cli_fleet.specs.Gated.{Passes, passed_is_counted};
 
     ghost makes = { Passes G.passed };
@@ -161,6 +170,9 @@ impl<'g, G: Gate> Outside for GatedOutside<'g, G> {
     ghost timers_make = { λ old call new made. made };
 
     ghost sleeps_stay = { λ old call new made. refl };
+
+    ghost sleep_is_started = { λ old nanos sleep new passes.
+        is_started (later old.outside.moment nanos) sleep passes.made.0 };
 
     ghost counts = { passed_is_counted G.passed };
 }

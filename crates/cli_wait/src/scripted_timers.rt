@@ -120,7 +120,9 @@ impl ScriptedTimers {
 }
 
 impl Timers for ScriptedTimers {
-    ghost use Rattle.std.specs.Prelude.{Some, true};
+    ghost use Rattle.std.specs.Prelude.{Some, refl, true};
+    ghost use Rattle.smithy_types.specs.Starting.{is_started};
+    ghost use Rattle.outside_scripted.specs.Time.{later};
     ghost use Rattle.cli_wait.specs.Makes.{Ticks};
 
     ghost moment = { λ t. Some t.moment };
@@ -159,6 +161,11 @@ impl Timers for ScriptedTimers {
     fn give_up(&mut self, sleep: u64) {
         self.sleeps.close(sleep);
     }
+
+    ghost keeps_sleeps = { λ old call new made. refl };
+
+    ghost starts_where_sleeps = { λ old nanos sleep new made. is_started (later old.moment nanos) sleep
+        made.0 };
 }
 
 impl WaiterTimers for ScriptedTimers {

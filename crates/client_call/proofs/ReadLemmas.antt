@@ -6,7 +6,6 @@ use Rattle.smithy_types.proofs.ChainLemmas.{chained_join, chained_more}
 use Rattle.smithy_types.specs.declared.http.HttpResponse.{HttpResponse}
 use Rattle.smithy_types.specs.declared.memory.OutOfMemory.{OutOfMemory}
 use Rattle.outside.specs.Calls.{OutsideCall, Frame}
-use Rattle.smithy_types.specs.declared.polled.Polled.{Polled as OutsidePolled}
 use Rattle.smithy_types.specs.Frames.{ends}
 use Rattle.smithy_types.specs.declared.polled.Polled.{Polled}
 use Rattle.run_grammar.specs.declared.answer.Answer.{Answer}
@@ -16,7 +15,7 @@ use Rattle.client_call.specs.declared.guards.Guards.{Guards}
 use Rattle.client_call.specs.declared.reading.Reading.{Reading}
 use Rattle.client_call.specs.declared.reading.Stop.{Stop}
 use Rattle.client_call.specs.declared.reading.Stop.TheVariants.{Pending}
-use Rattle.client_call.specs.Frames.{gathered, polled_of, stop_of}
+use Rattle.client_call.specs.Frames.{gathered, stop_of}
 use Rattle.client_call.specs.Guarding.{Passes}
 use Rattle.client_call.specs.Reading.{Asks, ClosesAs, GoesOn, Opens, Reads, ReadsOn, Runs, calls_of, closing}
 use Rattle.client_call.proofs.ChainLemmas.{sleeps_along}
@@ -71,28 +70,26 @@ module _ {X : Type 0} (makes : X → OutsideCall → X → Type 0) (sleeps : X �
   }
 
   -- a frame was asked for, passed by the guards and taken in
-  pub asked : (old new : Reading) (guards : Guards) (frame : OutsidePolled) (polled passed : Polled) (over : Bool) (r : Result (Option Stop) OutOfMemory) (x y z : X) →
-      makes x (Frame (Ok frame)) y → polled ≡ polled_of frame → over ≡ ends polled →
-      ByCalls makes y (Passes (sleeps y) old.guards polled passed guards) z →
+  pub asked : (old new : Reading) (guards : Guards) (frame passed : Polled) (over : Bool) (r : Result (Option Stop) OutOfMemory) (x y z : X) →
+      makes x (Frame (Ok frame)) y → over ≡ ends frame → ByCalls makes y (Passes (sleeps y) old.guards frame passed guards) z →
       IfOk r (λ stop. (stop ≡ stop_of old.bytes over passed) × (new ≡ record { bytes = gathered old.bytes passed; guards = guards })) →
       IfOk r (λ stop. ByCalls makes x (Asks (sleeps x) old stop new) z)
-  asked old new guards frame polled passed over (Ok stop) x y z made p o by (is, gathers) = record {
+  asked old new guards frame passed over (Ok stop) x y z made o by (is, gathers) = record {
     calls = Frame (Ok frame) ∷ by.calls;
     these = record {
       frame = frame;
       passed = passed;
       judging = by.calls;
       passes =
-          subst (λ g. Passes (sleeps x) old.guards (polled_of frame) passed g by.calls) (sym (ap (λ (t : Reading). t.guards) gathers))
-          (subst (λ f. Passes (sleeps x) old.guards f passed guards by.calls) p
-          (subst (λ s. Passes s old.guards polled passed guards by.calls) (stay x (Frame (Ok frame)) y made) by.these));
-      stop_is = is ∙ ap (λ b. stop_of old.bytes b passed) (o ∙ ap ends p);
+          subst (λ g. Passes (sleeps x) old.guards frame passed g by.calls) (sym (ap (λ (t : Reading). t.guards) gathers))
+          (subst (λ s. Passes s old.guards frame passed guards by.calls) (stay x (Frame (Ok frame)) y made) by.these);
+      stop_is = is ∙ ap (λ b. stop_of old.bytes b passed) o;
       bytes_are = ap (λ (t : Reading). t.bytes) gathers;
       calls_are = refl;
     };
     made = (y, made, by.made);
   }
-  asked old new guards frame polled passed over (Err e) x y z made p o by h = tt
+  asked old new guards frame passed over (Err e) x y z made o by h = tt
 
   -- an ask of an open body closes as its stop says
   pub closed : (old end : Reading) (call new : Call) (stop : Stop) (r : Result Answer OutOfMemory) (x y z : X) → call ≡ TheReading old →

@@ -7,7 +7,6 @@ use Rattle.smithy_types.specs.declared.http.HttpResponse.{HttpResponse}
 use Rattle.smithy_types.specs.declared.memory.OutOfMemory.{OutOfMemory}
 use Rattle.smithy_types.specs.declared.timers.TimersCall.{TimersCall}
 use Rattle.outside.specs.Calls.{OutsideCall, OfTimers, Begin, Poll, Frame, DropCall, Resolve, DropResolve, Word, Poison, Park}
-use Rattle.smithy_types.specs.declared.polled.Polled.{Polled as OutsidePolled}
 use Rattle.smithy_types.specs.declared.polled.Polled.TheVariants as polls
 use Rattle.stream_guard.specs.declared.options.MinimumThroughputBodyOptions.{MinimumThroughputBodyOptions}
 use Rattle.body_guard.specs.Download.{Judges, passed as passed_by}
@@ -28,7 +27,7 @@ use Rattle.client_call.specs.declared.reading.Reading.{Reading as OpenBody}
 use Rattle.client_call.specs.declared.reading.Stop.{Stop}
 use Rattle.client_call.specs.declared.reading.Stop.TheVariants as stops
 use Rattle.client_call.specs.Causes.{Counted, IsCounted, ReadsAll, WasMade, answer_data, bytes_of, call_data, data_of, frames_in, with_frame}
-use Rattle.client_call.specs.Frames.{fits_in, gathered, polled_of, stop_of}
+use Rattle.client_call.specs.Frames.{fits_in, gathered, stop_of}
 use Rattle.client_call.specs.Guarding.{GuardsLength, GuardsThroughput, HoldsTo, LengthGuard, LengthPasses, Passes, ThroughputGuard, ThroughputPasses, stopping, stopping_guard}
 use Rattle.client_call.specs.Reading.{Asks, BeginsReading, ClosesAs, GoesOn, Opens, Reads, ReadsOn, Runs, StopsBehind, calls_of, closing, failed_call}
 
@@ -122,41 +121,41 @@ passes_as sleeps old frame passed new calls h c =
 -- one frame
 
 -- what a frame adds, by how the ask stops with it
-abbrev IsAdded : Option Stop → List ℕ → List ℕ → OutsidePolled → List ℕ → Type 0
+abbrev IsAdded : Option Stop → List ℕ → List ℕ → Polled → List ℕ → Type 0
 IsAdded None old new frame more = new ≡ old ++ more
 IsAdded (Some stops.Pending) old new frame more = (frame ≡ polls.Pending) × (new ≡ old ++ more)
 IsAdded (Some stops.End) old new frame more = (frame ≡ polls.End) × (new ≡ old ++ more)
 IsAdded (Some (stops.Failed text over)) old new frame more = Unit {0}
 IsAdded (Some stops.TooLong) old new frame more = Unit {0}
 
-data_adds : (b : Bool) (bytes more : List ℕ) (frame : OutsidePolled) → IsAdded (if b then None else Some stops.TooLong) bytes (if b then bytes ++ more else bytes) frame more
+data_adds : (b : Bool) (bytes more : List ℕ) (frame : Polled) → IsAdded (if b then None else Some stops.TooLong) bytes (if b then bytes ++ more else bytes) frame more
 data_adds true bytes more frame = refl
 data_adds false bytes more frame = tt
 
-frame_adds : (bytes : List ℕ) (over : Bool) (frame : OutsidePolled) → IsAdded (stop_of bytes over (polled_of frame)) bytes (gathered bytes (polled_of frame)) frame (answer_data (Ok frame))
+frame_adds : (bytes : List ℕ) (over : Bool) (frame : Polled) → IsAdded (stop_of bytes over frame) bytes (gathered bytes frame) frame (answer_data (Ok frame))
 frame_adds bytes over polls.Pending = (refl, sym (append-nil bytes))
 frame_adds bytes over (polls.Data more) = data_adds (fits_in bytes more) bytes more (polls.Data more)
 frame_adds bytes over polls.Trailers = sym (append-nil bytes)
 frame_adds bytes over polls.End = (refl, sym (append-nil bytes))
 frame_adds bytes over (polls.Failed fault) = tt
 
-added_as : (stop : Option Stop) (old new : List ℕ) (frame : OutsidePolled) (more : List ℕ) (over : Bool) (passed : Polled) → stop ≡ stop_of old over passed → new ≡ gathered old passed →
-    more ≡ answer_data (Ok frame) → PassedAs (polled_of frame) passed → IsAdded stop old new frame more
+added_as : (stop : Option Stop) (old new : List ℕ) (frame : Polled) (more : List ℕ) (over : Bool) (passed : Polled) → stop ≡ stop_of old over passed → new ≡ gathered old passed →
+    more ≡ answer_data (Ok frame) → PassedAs frame passed → IsAdded stop old new frame more
 added_as stop old new frame more over passed s n d (inl e) =
     subst (λ m. IsAdded stop old new frame m) (sym d)
     (subst (λ l. IsAdded stop old l frame (answer_data (Ok frame))) (sym (n ∙ ap (gathered old) e))
-    (subst (λ t. IsAdded t old (gathered old (polled_of frame)) frame (answer_data (Ok frame))) (sym (s ∙ ap (stop_of old over) e)) (frame_adds old over frame)))
+    (subst (λ t. IsAdded t old (gathered old frame) frame (answer_data (Ok frame))) (sym (s ∙ ap (stop_of old over) e)) (frame_adds old over frame)))
 added_as stop old new frame more over passed s n d (inr (fault, e)) =
     subst (λ t. IsAdded t old new frame more) (sym (s ∙ ap (stop_of old over) e)) tt
 
-record Asked (old : OpenBody) (stop : Option Stop) (new : OpenBody) (frame : OutsidePolled) (calls : List OutsideCall) : Type 0 where
+record Asked (old : OpenBody) (stop : Option Stop) (new : OpenBody) (frame : Polled) (calls : List OutsideCall) : Type 0 where
   counted : Counted new.guards.length
   added : IsAdded stop old.bytes new.bytes frame (data_of calls)
   one : frames_in calls ≡ 1
 
 asks_add : (sleeps : Bool) (old : OpenBody) (stop : Option Stop) (new : OpenBody) (calls : List OutsideCall) (h : Asks sleeps old stop new calls) → Counted old.guards.length → Asked old stop new h.frame calls
 asks_add sleeps old stop new calls h c =
-    let p = passes_as sleeps old.guards (polled_of h.frame) h.passed new.guards h.judging h.passes c in
+    let p = passes_as sleeps old.guards h.frame h.passed new.guards h.judging h.passes c in
     record {
       counted = p.counted;
       added = added_as stop old.bytes new.bytes h.frame (data_of calls) _ h.passed h.stop_is h.bytes_are
@@ -199,7 +198,7 @@ Tells stops.End old new calls = (new ≡ old ++ data_of calls) × WasMade (Frame
 Tells (stops.Failed text over) old new calls = Unit {0}
 Tells stops.TooLong old new calls = Unit {0}
 
-made_last : (frame known : OutsidePolled) (before last judging calls : List OutsideCall) → frame ≡ known → last ≡ Frame (Ok frame) ∷ judging → calls ≡ before ++ last → WasMade (Frame (Ok known)) calls
+made_last : (frame known : Polled) (before last judging calls : List OutsideCall) → frame ≡ known → last ≡ Frame (Ok frame) ∷ judging → calls ≡ before ++ last → WasMade (Frame (Ok known)) calls
 made_last frame known before last judging calls f l e = (before, judging, e ∙ ap (λ t. before ++ t) (l ∙ ap (λ x. Frame (Ok x) ∷ judging) f))
 
 last_tells : (sleeps : Bool) (old : List ℕ) (mid end : OpenBody) (stop : Stop) (before last : List OutsideCall) (a : Asks sleeps mid (Some stop) end last) → mid.bytes ≡ old ++ data_of before →

@@ -1,19 +1,9 @@
 -- The frames of a body: what each adds to its bytes, and how an ask stops.
 use Rattle.std.specs.Prelude.{ℕ, ◌+◌, Bool, nat_le, if◌then◌else◌, List, [], ◌++◌, length, Option, None, Some}
-use Rattle.smithy_types.specs.declared.polled.Polled.{Polled as OutsidePolled}
-use Rattle.smithy_types.specs.declared.polled.Polled.TheVariants as frames
 use Rattle.smithy_types.specs.declared.polled.Polled.{Polled}
 use Rattle.smithy_types.specs.declared.polled.Polled.TheVariants as polled
 use Rattle.client_call.specs.declared.reading.Stop.{Stop}
 use Rattle.client_call.specs.declared.reading.Stop.TheVariants.{Pending, End, Failed, TooLong}
-
--- a frame of the outside as the guards take it
-abbrev pub polled_of : OutsidePolled → Polled
-polled_of frames.Pending = polled.Pending
-polled_of (frames.Data bytes) = polled.Data bytes
-polled_of frames.Trailers = polled.Trailers
-polled_of frames.End = polled.End
-polled_of (frames.Failed fault) = polled.Failed fault
 
 -- a body may have so many bytes
 abbrev pub fits_in : List ℕ → List ℕ → Bool

@@ -4,7 +4,6 @@ use Rattle.smithy_context.specs.StandingLayers.{StandingLayers}
 use Rattle.smithy_types.specs.Chain.{Chained}
 use Rattle.smithy_types.specs.declared.http.HttpResponse.{HttpResponse}
 use Rattle.outside.specs.Calls.{OutsideCall, Frame}
-use Rattle.smithy_types.specs.declared.polled.Polled.{Polled as OutsidePolled}
 use Rattle.smithy_types.specs.Frames.{ends}
 use Rattle.smithy_types.specs.declared.polled.Polled.{Polled}
 use Rattle.run_grammar.specs.declared.answer.Answer.{Answer}
@@ -14,7 +13,7 @@ use Rattle.client_call.specs.declared.call.Call.TheVariants.{Idle, Arrived, Read
 use Rattle.client_call.specs.declared.reading.Reading.{Reading as OpenBody}
 use Rattle.client_call.specs.declared.reading.Stop.{Stop}
 use Rattle.client_call.specs.declared.reading.Stop.TheVariants as stops
-use Rattle.client_call.specs.Frames.{gathered, polled_of, stop_of}
+use Rattle.client_call.specs.Frames.{gathered, stop_of}
 use Rattle.client_call.specs.Guarding.{Passes, SetsUp, stopping}
 
 -- nothing was read, and the guards are those that are set
@@ -29,11 +28,11 @@ Opens settings response old new calls = (new ≡ old) × (calls ≡ [])
 
 -- one frame, which the guards pass, and how the ask stops with it
 pub record Asks (sleeps : Bool) (old : OpenBody) (stop : Option Stop) (new : OpenBody) (calls : List OutsideCall) : Type 0 where
-  pub frame : OutsidePolled
+  pub frame : Polled
   pub passed : Polled
   pub judging : List OutsideCall
-  pub passes : Passes sleeps old.guards (polled_of frame) passed new.guards judging
-  pub stop_is : stop ≡ stop_of old.bytes (ends (polled_of frame)) passed
+  pub passes : Passes sleeps old.guards frame passed new.guards judging
+  pub stop_is : stop ≡ stop_of old.bytes (ends frame) passed
   pub bytes_are : new.bytes ≡ gathered old.bytes passed
   pub calls_are : calls ≡ Frame (Ok frame) ∷ judging
 

@@ -4,7 +4,6 @@ ghost use Rattle.smithy_types.specs.Chain.{ByCalls, Chained};
 ghost use Rattle.client_call.specs.Reading.{Asks, ClosesAs, Opens, ReadsOn, Reads, Runs, closing};
 ghost use Rattle.client_call.specs.Reading.{failed_call};
 
-use crate::reading::polled_of;
 use crate::{Call, Reading, Stop};
 use outside::Outside;
 use run_grammar::Answer;
@@ -110,9 +109,8 @@ fn frame<X: Outside>(
         (Asks (X.sleeps outside.old) reading.old stop reading.new) outside.new) }
 {
     let frame = outside.frame(alloc)?;
-    let polled = polled_of(frame);
-    let over = polled.ends();
-    let passed = reading.guards.pass(alloc, outside, polled)?;
+    let over = frame.ends();
+    let passed = reading.guards.pass(alloc, outside, frame)?;
     reading.gather(&passed, over)
 }
 

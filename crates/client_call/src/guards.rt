@@ -7,12 +7,11 @@ ghost use Rattle.client_call.specs.Protection.{download_options, enforces_length
 
 use crate::protection::{download_options, enforces_length};
 use body_guard::{
-    ContentLengthEnforcingBody, MinimumThroughputDownloadBody, NoBody, Polled,
-    extract_content_length,
+    ContentLengthEnforcingBody, MinimumThroughputDownloadBody, NoBody, extract_content_length,
 };
 use outside::Outside;
 use smithy_context::Settings;
-use smithy_types::{HttpResponse, OutOfMemory, Shared};
+use smithy_types::{HttpResponse, OutOfMemory, Polled, Shared};
 use std::alloc::Global;
 
 /// The guard of a body's length, and outside of it that of its throughput. Each stands over a body

@@ -1,14 +1,13 @@
 //! A response's body that is open, and what its frames make of it.
 ghost use Rattle.std.specs.Prelude.{◌≡◌, [], None, Some, IfOk, if◌then◌else◌};
 ghost use Rattle.smithy_types.specs.Chain.{ByCalls};
-ghost use Rattle.client_call.specs.Frames.{fits_in, gathered, polled_of, stop_of};
+ghost use Rattle.client_call.specs.Frames.{fits_in, gathered, stop_of};
 ghost use Rattle.client_call.specs.Reading.{BeginsReading};
 
 use crate::{Gathered, Guards};
-use body_guard::Polled;
 use outside::Outside;
 use smithy_context::Settings;
-use smithy_types::{Blob, HttpResponse, OutOfMemory, Shared, Text};
+use smithy_types::{Blob, HttpResponse, OutOfMemory, Polled, Shared, Text};
 use std::alloc::Global;
 
 /// The most bytes that a response's body may have.
@@ -90,18 +89,5 @@ impl Reading {
         }
         self.bytes.push(more.as_slice())?;
         Ok(None)
-    }
-}
-
-/// A frame of the outside as the guards take it.
-pub(crate) fn polled_of(frame: outside::Polled) -> Polled
-    ensures { result ≡ polled_of frame }
-{
-    match frame {
-        outside::Polled::Pending => Polled::Pending,
-        outside::Polled::Data(bytes) => Polled::Data(bytes),
-        outside::Polled::Trailers => Polled::Trailers,
-        outside::Polled::End => Polled::End,
-        outside::Polled::Failed(fault) => Polled::Failed(fault),
     }
 }

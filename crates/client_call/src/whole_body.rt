@@ -2,8 +2,8 @@
 ghost use Rattle.std.specs.Prelude.{◌≡◌, IfOk};
 ghost use Rattle.client_call.specs.Uploading.{body_bytes};
 
-use body_guard::{Polled, PolledBody};
-use smithy_types::{Blob, Body, OutOfMemory};
+use body_guard::PolledBody;
+use smithy_types::{Blob, Body, OutOfMemory, Polled};
 use std::alloc::Global;
 use std::mem;
 

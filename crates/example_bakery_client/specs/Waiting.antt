@@ -1,5 +1,5 @@
 -- What a watch of an order makes of a waiter's calls, and what a poll of it means.
-use Rattle.std.specs.Prelude.{◌≡◌, ℕ, true, false, List, [], ◌∷◌, Result, Ok, Err, Some, MatchResult, codes}
+use Rattle.std.specs.Prelude.{◌≡◌, ◌↔◌, ℕ, true, false, IsSome, IsTrue, Option, List, [], ◌∷◌, Result, Ok, Err, Some, MatchResult, codes}
 use Rattle.std.specs.Borrow.{Bor}
 use Rattle.std.proofs.Common.{ap}
 use Rattle.smithy_types.specs.declared.acceptor.AcceptorState.{AcceptorState}
@@ -7,6 +7,7 @@ use Rattle.smithy_types.specs.declared.acceptor.AcceptorState.TheVariants.{Succe
 use Rattle.smithy_types.specs.declared.fault.FaultKind.TheVariants.{Other}
 use Rattle.smithy_types.specs.declared.fault.SdkError.TheVariants.{DispatchFailure}
 use Rattle.smithy_types.specs.Chain.{Chained}
+use Rattle.smithy_types.specs.Starting.{is_started}
 use Rattle.smithy_types.specs.declared.timers.TimersCall.{TimersCall}
 use Rattle.smithy_types.specs.declared.timers.TimersCall.TheVariants as timers
 use Rattle.text_payloads.specs.Text.{is_text}
@@ -23,6 +24,7 @@ use Rattle.outside.specs.Calls as calls
 use Rattle.outside.specs.Calls.{OutsideCall}
 use Rattle.run_grammar.specs.declared.answer.Entry.{Entry}
 use Rattle.outside_scripted.specs.Makes.{Makes}
+use Rattle.outside_scripted.specs.Time.{later}
 use Rattle.outside_scripted.specs.declared.scripted_outside.ScriptedOutside.{ScriptedOutside}
 use Rattle.waiters.specs.Calls.{Answer}
 use Rattle.waiters.specs.Count.{Counts}
@@ -98,6 +100,10 @@ module _ {Q C I P L : Type 0} where
   sleeps_are_counted old (Word word) new made = ap (λ w. w.unready) made.1
   sleeps_are_counted old Park new made = ap (λ w. w.unready) made.1
   sleeps_are_counted old (Poll number _) new made = made
+
+  -- and a start answers a sleep
+  abbrev pub sleeps_are_started : (old : Watch Q C I P L) (nanos : ℕ) (sleep : Option ℕ) (new : Watch Q C I P L) → Passes old (Timers (timers.Start nanos (Ok sleep))) new → IsSome sleep ↔ IsTrue true
+  sleeps_are_started old nanos sleep new made = is_started (later (outside_of old).moment nanos) sleep made.0.1.0
 
   -- A poll with this number asks once for the order that is watched, and tells what was answered.
   pub record Asks (old : Watch Q C I P L) (number : ℕ) (found : Answer GetOrderOutput BakeryError) (new : Watch Q C I P L) : Type 0 where

@@ -71,8 +71,8 @@ impl<Q: Quota + Drop, C: ClassifyRetry, I: TakeOffer> Watch<Q, C, I> {
 }
 
 impl<Q: Quota + Drop, C: ClassifyRetry, I: TakeOffer> Timers for Watch<Q, C, I> {
-    ghost use Rattle.std.specs.Prelude.{None, true};
-    ghost use Rattle.example_bakery_client.specs.Waiting.{Passes};
+    ghost use Rattle.std.specs.Prelude.{None, refl, true};
+    ghost use Rattle.example_bakery_client.specs.Waiting.{Passes, sleeps_are_started};
     ghost use Rattle.waiters.specs.declared.timers.WaiterCall.TheVariants as calls;
 
     ghost moment = { λ _. None };
@@ -105,6 +105,10 @@ impl<Q: Quota + Drop, C: ClassifyRetry, I: TakeOffer> Timers for Watch<Q, C, I> 
     fn give_up(&mut self, sleep: u64) {
         self.client.parts.outside.give_up(sleep);
     }
+
+    ghost keeps_sleeps = { λ old call new made. refl };
+
+    ghost starts_where_sleeps = { sleeps_are_started };
 }
 
 impl<Q: Quota + Drop, C: ClassifyRetry, I: TakeOffer> WaiterTimers for Watch<Q, C, I> {

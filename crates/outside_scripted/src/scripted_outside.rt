@@ -206,7 +206,9 @@ fn begun(next: Option<ResponseRecord>, moment: u64) -> OpenCall
 }
 
 impl Timers for ScriptedOutside {
-    ghost use Rattle.std.specs.Prelude.{Some, true};
+    ghost use Rattle.std.specs.Prelude.{Some, refl, true};
+    ghost use Rattle.smithy_types.specs.Starting.{is_started};
+    ghost use Rattle.outside_scripted.specs.Time.{later};
     ghost use Rattle.outside_scripted.specs.Makes.{Ticks};
 
     ghost moment = { λ s. Some s.moment };
@@ -236,10 +238,17 @@ impl Timers for ScriptedOutside {
     fn give_up(&mut self, sleep: u64) {
         self.sleeps.close(sleep);
     }
+
+    ghost keeps_sleeps = { λ old call new made. refl };
+
+    ghost starts_where_sleeps = { λ old nanos sleep new made. is_started (later old.moment nanos) sleep
+        made.0 };
 }
 
 impl Outside for ScriptedOutside {
     ghost use Rattle.std.specs.Prelude.{refl};
+    ghost use Rattle.smithy_types.specs.Starting.{is_started};
+    ghost use Rattle.outside_scripted.specs.Time.{later};
     ghost use Rattle.outside_scripted.specs.Makes.{Makes};
     ghost use Rattle.outside_scripted.specs.Counting.{each_failure_is_counted};
 
@@ -296,6 +305,9 @@ impl Outside for ScriptedOutside {
     ghost timers_make = { λ old call new made. made };
 
     ghost sleeps_stay = { λ old call new made. refl };
+
+    ghost sleep_is_started = { λ old nanos sleep new made. is_started (later old.moment nanos) sleep
+        made.0 };
 
     ghost counts = { each_failure_is_counted };
 }

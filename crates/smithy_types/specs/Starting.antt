@@ -1,6 +1,13 @@
--- What a start answers where there are sleeps.
-use Rattle.std.specs.Prelude.{◌≡◌, ℕ, ◌↔◌, true, IsSome, IsTrue, Option, Some}
+-- What a start answers where there are sleeps, and where there are none.
+use Rattle.std.specs.Prelude.{◌≡◌, ℕ, ◌↔◌, Bool, true, IsSome, IsTrue, Ok, Option, Some}
 use Rattle.std.proofs.Common.{subst, sym}
+use Rattle.smithy_types.specs.declared.timers.TimersCall.{TimersCall}
+use Rattle.smithy_types.specs.declared.timers.TimersCall.TheVariants.{Start}
+
+-- of a call: a start answers a sleep exactly where there are sleeps
+abbrev pub StartsWhere : Bool → TimersCall → Type 0
+StartsWhere sleeps (Start nanos (Ok sleep)) = IsSome sleep ↔ IsTrue sleeps
+StartsWhere sleeps _ = Unit {0}
 
 -- a sleep was answered, as there are sleeps
 pub is_started : (due : ℕ) (sleep : Option ℕ) → sleep ≡ Some due → IsSome sleep ↔ IsTrue true

@@ -134,7 +134,9 @@ impl ScriptedFleet {
 }
 
 impl Timers for ScriptedFleet {
-    ghost use Rattle.std.specs.Prelude.{Some, true};
+    ghost use Rattle.std.specs.Prelude.{Some, refl, true};
+    ghost use Rattle.smithy_types.specs.Starting.{is_started};
+    ghost use Rattle.outside_scripted.specs.Time.{later};
     ghost use Rattle.cli_waiters.specs.Fleet.Makes.{Ticks};
 
     ghost moment = { λ w. Some w.moment };
@@ -170,6 +172,11 @@ impl Timers for ScriptedFleet {
     fn give_up(&mut self, sleep: u64) {
         self.sleeps.close(sleep);
     }
+
+    ghost keeps_sleeps = { λ old call new made. refl };
+
+    ghost starts_where_sleeps = { λ old nanos sleep new made. is_started (later old.moment nanos) sleep
+        made.0 };
 }
 
 impl WaiterTimers for ScriptedFleet {

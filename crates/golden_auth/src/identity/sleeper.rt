@@ -28,13 +28,14 @@ impl Sleeper {
 }
 
 impl Timers for Sleeper {
-    ghost use Rattle.std.specs.Prelude.{Some};
+    ghost use Rattle.std.specs.Prelude.{◌≡◌, Some};
+    ghost use Rattle.smithy_types.specs.Starting.{StartsWhere};
 
     ghost moment = { λ t. Some t.moment };
 
     ghost sleeps = { λ t. t.sleeps };
 
-    ghost relates = { λ _ _ _. Unit {0} };
+    ghost relates = { λ old call new. (new.sleeps ≡ old.sleeps) × StartsWhere old.sleeps call };
 
     fn has_sleep(&self) -> bool {
         self.sleeps
@@ -59,4 +60,8 @@ impl Timers for Sleeper {
     fn give_up(&mut self, _sleep: u64) {
         self.given_up = self.given_up.saturating_add(1);
     }
+
+    ghost keeps_sleeps = { λ old call new made. made.0 };
+
+    ghost starts_where_sleeps = { λ old nanos sleep new made. made.1 };
 }

@@ -96,8 +96,9 @@ impl ScriptedWorld {
 }
 
 impl Timers for ScriptedWorld {
-    ghost use Rattle.std.specs.Prelude.{Some, true};
+    ghost use Rattle.std.specs.Prelude.{Some, refl, true};
     ghost use Rattle.waiters.specs.declared.timers.WaiterCall.TheVariants as call;
+    ghost use Rattle.smithy_types.specs.Starting.{StartsWhere};
     ghost use Rattle.golden_retries.specs.Makes.{Makes};
 
     ghost moment = { λ w. Some w.moment };
@@ -105,7 +106,7 @@ impl Timers for ScriptedWorld {
     ghost sleeps = { λ _. true };
 
     ghost relates = { λ old one new. Makes old.unready old.waits (call.Timers one) new.unready
-        new.waits };
+        new.waits × StartsWhere true one };
 
     fn has_sleep(&self) -> bool {
         true
@@ -131,6 +132,10 @@ impl Timers for ScriptedWorld {
     }
 
     fn give_up(&mut self, _sleep: u64) {}
+
+    ghost keeps_sleeps = { λ old one new made. refl };
+
+    ghost starts_where_sleeps = { λ old nanos sleep new made. made.1 };
 }
 
 impl WaiterTimers for ScriptedWorld {
@@ -149,7 +154,7 @@ impl WaiterTimers for ScriptedWorld {
         self.moment = self.moment.max(self.next);
     }
 
-    ghost timers_make = { λ old one new made. made };
+    ghost timers_make = { λ old one new made. made.0 };
 
     ghost sleeps_stay = { λ old one new made. refl };
 

@@ -4,7 +4,7 @@ use Rattle.std.proofs.lemmas.List.{append-nil}
 use Rattle.smithy_types.specs.Frames.{ends}
 use Rattle.body_guard.specs.Grace.{give_up_calls}
 use Rattle.client_call.specs.Ending.{quieting}
-use Rattle.client_call.specs.Frames.{gathered, polled_of, stop_of}
+use Rattle.client_call.specs.Frames.{gathered, stop_of}
 use Rattle.client_call.specs.Guarding.{Passes, ThroughputGuard, stopping_guard}
 use Rattle.client_call.specs.Protection.{standing_stall, upload_marked, upload_options}
 use Rattle.client_call.specs.Reading.{Asks, ClosesAs, GoesOn, Opens, ReadsBody, ReadsOn, StopsBehind, calls_of, closing, failed_call}
@@ -166,9 +166,9 @@ module _ {X : Type 0} (makes : X → OutsideCall → X → Type 0) (steady : IsS
   asks_alike sleeps old other new more one two asked again calls later from made also alike s t did too =
       let frame = onward makes steady (λ f. Frame (Ok f)) steady.frame s.frame t.frame (s.judging ++ calls) (t.judging ++ later) from made also
       (subst (λ l. Chained makes from (l ++ calls) made) s.calls_are did) (subst (λ l. Chained makes from (l ++ later) also) t.calls_are too) in
-      let passed = passes_alike makes steady sleeps old.guards other.guards new.guards more.guards (polled_of t.frame) s.passed t.passed s.judging t.judging calls later frame.1.state made also alike.guards
-      (subst (λ f. Passes sleeps old.guards (polled_of f) s.passed new.guards s.judging) frame.0 s.passes) t.passes frame.1.first frame.1.second in (
-        s.stop_is ∙ ((λ i. stop_of (alike.bytes i) (ends (polled_of (frame.0 i))) (passed.0 i)) ∙ sym t.stop_is),
+      let passed = passes_alike makes steady sleeps old.guards other.guards new.guards more.guards t.frame s.passed t.passed s.judging t.judging calls later frame.1.state made also alike.guards
+      (subst (λ f. Passes sleeps old.guards f s.passed new.guards s.judging) frame.0 s.passes) t.passes frame.1.first frame.1.second in (
+        s.stop_is ∙ ((λ i. stop_of (alike.bytes i) (ends (frame.0 i)) (passed.0 i)) ∙ sym t.stop_is),
         record { bytes = s.bytes_are ∙ ((λ i. gathered (alike.bytes i) (passed.0 i)) ∙ sym t.bytes_are); guards = passed.1 },
         passed.2,
       )
