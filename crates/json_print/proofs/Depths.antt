@@ -1,58 +1,30 @@
 -- No line of a print nests deeply.
-use Rattle.std.proofs.Common.{◌≡◌, ◌≤◌, ℕ, suc, List, [], ◌∷◌, ◌++◌, map, Bool, true, false, cond, Option, Some, None, option_to_list, codes, arith}
+use Rattle.std.proofs.Common.{◌≤◌, ℕ, suc, List, [], ◌∷◌, ◌++◌, map, Bool, true, false, cond, Option, Some, None, option_to_list, arith}
 use Rattle.std.specs.List.{list_all}
-use Rattle.http_header.specs.FieldValue.{FieldValue}
 use Rattle.http_header.specs.HeaderMap.{pairs}
 use Rattle.json_forms.specs.Prints.{row, num, null_or, texts, is_shown, blob_data}
 use Rattle.run_grammar.specs.Question.{kind_of_question}
-use Rattle.run_grammar.specs.declared.answer.Answer.{Answer}
 use Rattle.run_grammar.specs.declared.answer.Answer.TheVariants as answers
-use Rattle.run_grammar.specs.declared.answer.Chosen.{Chosen}
 use Rattle.run_grammar.specs.declared.answer.Entry.{Entry}
 use Rattle.json_print.specs.Print.{begin_data, ending_data, entry_data, error_data, transmitted}
-use Rattle.json_print.specs.declared.ending.Ending.{Ending}
 use Rattle.json_print.specs.declared.ending.Ending.TheVariants as endings
-use Rattle.json_print.specs.declared.head.RunHead.{RunHead}
-use Rattle.serde_json.specs.Data.{Data, depth, null, string, array, items_depth}
+use Rattle.serde_json.specs.Data.{Data, depth, string, items_depth}
 use Rattle.serde_json.specs.View.{items_of}
-use Rattle.smithy_context.specs.declared.intercept.Change.{Change}
 use Rattle.smithy_context.specs.declared.intercept.Change.TheVariants as changes
-use Rattle.smithy_context.specs.declared.intercept.HookAnswer.{HookAnswer}
-use Rattle.smithy_context.specs.declared.layer.LayerEntry.{LayerEntry}
-use Rattle.smithy_context.specs.declared.setting.Setting.{Setting}
 use Rattle.smithy_context.specs.declared.setting.Setting.TheVariants as settings
-use Rattle.smithy_types.specs.HeaderList.{HeaderList}
-use Rattle.smithy_types.specs.declared.config.RetryConfig.{RetryConfig}
-use Rattle.smithy_types.specs.declared.config.RetrySpec.{RetrySpec}
-use Rattle.smithy_types.specs.declared.config.TimeoutConfig.{TimeoutConfig}
-use Rattle.smithy_types.specs.declared.fault.Fault.{Fault}
 use Rattle.smithy_types.specs.declared.fault.FaultKind.{FaultKind}
 use Rattle.smithy_types.specs.declared.fault.FaultKind.TheVariants as faults
-use Rattle.smithy_types.specs.declared.fault.Outcome.{Outcome}
 use Rattle.smithy_types.specs.declared.fault.Outcome.TheVariants as outcomes
-use Rattle.smithy_types.specs.declared.fault.SdkError.{SdkError}
 use Rattle.smithy_types.specs.declared.fault.SdkError.TheVariants as errors
-use Rattle.smithy_types.specs.declared.http.Body.{Body}
 use Rattle.smithy_types.specs.declared.http.Body.TheVariants as bodies
 use Rattle.smithy_types.specs.declared.http.HttpRequest.{HttpRequest}
-use Rattle.smithy_types.specs.declared.http.HttpResponse.{HttpResponse}
-use Rattle.smithy_types.specs.declared.identity.Endpoint.{Endpoint}
-use Rattle.smithy_types.specs.declared.identity.EndpointHeader.{EndpointHeader}
-use Rattle.smithy_types.specs.declared.identity.Identity.{Identity}
-use Rattle.smithy_types.specs.declared.kinds.ConnectorKind.{ConnectorKind}
 use Rattle.smithy_types.specs.declared.kinds.ConnectorKind.TheVariants as connectors
-use Rattle.smithy_types.specs.declared.kinds.ErrorKind.{ErrorKind}
 use Rattle.smithy_types.specs.declared.notes.Choice.{Choice}
 use Rattle.smithy_types.specs.declared.notes.Choice.TheVariants as choices
-use Rattle.smithy_types.specs.declared.notes.ChooseNote.{ChooseNote}
 use Rattle.smithy_types.specs.declared.notes.ChooseNote.TheVariants as choose_notes
 use Rattle.smithy_types.specs.declared.notes.DecideNote.{DecideNote}
-use Rattle.smithy_types.specs.declared.notes.Reason.{Reason}
 use Rattle.smithy_types.specs.declared.notes.Reason.TheVariants as reasons
-use Rattle.smithy_types.specs.declared.notes.RetryAction.{RetryAction}
 use Rattle.smithy_types.specs.declared.notes.RetryAction.TheVariants as actions
-use Rattle.smithy_types.specs.declared.payload.Payload.{Payload}
-use Rattle.smithy_types.specs.declared.sums.Sums.{Sums}
 use Rattle.json_values.specs.Names.{kind_text}
 use Rattle.json_values.specs.Values.{action_data, answer_data, body_data, change_data, choice_data, choose_note_data, chosen_data, connector_data, decided_data, does_nothing, endpoint_data, endpoint_header_data, error_kind_data, fault_data, fault_parts, header_data, headers_data, hook_answer_data, identity_data, kind_data, layer_data, layer_entry_data, note_data, outcome_data, payload_data, reason_data, request_data, response_data, retry_data, spec_data, stall_data, sums_data, timeouts_data, value_data}
 

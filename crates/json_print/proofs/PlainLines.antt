@@ -1,5 +1,5 @@
 -- The line of a number, a kind of question and a word.
-use Rattle.std.proofs.Common.{◌≡◌, ℕ, ◌<◌, ◌^◌, List, [], ◌∷◌, ◌++◌, Bool, true, false, ◌&&◌, Option, Some, None, cond, nat_eq, map, option_to_list, refl, sym, ap, ◌∙◌, subst, append_assoc, lt-ltb, arith}
+use Rattle.std.proofs.Common.{◌≡◌, ℕ, ◌<◌, ◌^◌, List, [], ◌∷◌, ◌++◌, Bool, true, false, Option, Some, cond, nat_eq, map, option_to_list, refl, sym, ap, ◌∙◌, subst, append_assoc, lt-ltb, arith}
 use Rattle.std.proofs.lemmas.Bool.{and_parts}
 use Rattle.std.specs.Fmt.{decimal}
 use Rattle.std.specs.List.{list_all, find}
@@ -12,7 +12,7 @@ use Rattle.json_forms.specs.Prints.{row, num}
 use Rattle.run_grammar.specs.Question.{kind_of_question}
 use Rattle.run_grammar.specs.declared.answer.Entry.{Entry}
 use Rattle.run_grammar.specs.declared.kind.Kind.{Kind}
-use Rattle.serde_json.specs.Data.{Data, string}
+use Rattle.serde_json.specs.Data.{Data}
 use Rattle.smithy_types.specs.declared.http.HttpRequest.{HttpRequest}
 use Rattle.json_values.proofs.FoundNames.{by_its_text}
 use Rattle.json_values.specs.Names.{all_kinds, kind_text}

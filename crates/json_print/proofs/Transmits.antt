@@ -1,5 +1,5 @@
 -- The line of a transmission shows its request.
-use Rattle.std.proofs.Common.{◌≡◌, ℕ, List, [], ◌∷◌, ◌++◌, Option, None, Some, ap, refl, ◌∙◌, map}
+use Rattle.std.proofs.Common.{◌≡◌, ℕ, ◌++◌, Option, Some, ap, refl, ◌∙◌, map}
 use Rattle.std.specs.Prelude.{option_to_list}
 use Rattle.json_forms.specs.Prints.{row}
 use Rattle.smithy_types.specs.declared.http.HttpRequest.{HttpRequest}

@@ -1,5 +1,5 @@
 use Rattle.std.proofs.Common.{arith, ◌∙◌, ap, refl, sym, ◌+◌, ◌++◌, ℕ, drop}
-use Rattle.json_print.specs.Print.{entries_text, entry_data}
+use Rattle.json_print.specs.Print.{entries_text}
 use Rattle.json_print.proofs.Lines.{entries_more, entries_end}
 use Rattle.json_print.proofs.Readable.{all_fine, fine_more}
 use Rattle.json_print.proofs.print.print_entries.Goals as goal
