@@ -10,11 +10,14 @@ use Rattle.client_retries.specs.Hooking.{Hooks, seen_context}
 use Rattle.client_retries.specs.Initially.{Begun}
 use Rattle.client_retries.specs.Meanings.{InterceptorMeans, QuotaMeans}
 use Rattle.client_retries.specs.declared.configure.CacheNeeds.{CacheNeeds}
+use Rattle.retry_policy.specs.Interceptors.{is_before_retry_loop}
 use Rattle.retry_policy.specs.Verdict.{verdict_of}
 use Rattle.run_grammar.specs.declared.answer.Answer.{Answer}
 use Rattle.run_grammar.specs.declared.kind.ConfigureStage.{ConfigureStage}
 use Rattle.run_grammar.specs.declared.kind.ConfigureStage.TheVariants.{Client, Operation, Final}
 use Rattle.run_grammar.specs.declared.kind.Role.TheVariants.{Attempt}
+use Rattle.run_grammar.specs.declared.question.Question.{Question}
+use Rattle.run_grammar.specs.declared.question.Question.TheVariants as questions
 use Rattle.smithy_context.specs.StandingLayers.{StandingLayers}
 use Rattle.smithy_context.specs.declared.context.InterceptorContext.{InterceptorContext}
 use Rattle.smithy_context.specs.declared.intercept.HookView.{HookView}
@@ -56,6 +59,13 @@ decided_view settings request response outcome attempt = record {
   attempt = attempt;
   settings = settings;
 }
+
+-- the questions that call the quota
+abbrev pub calls_quota : Question → Bool
+calls_quota (questions.Hook hook view) = is_before_retry_loop hook
+calls_quota (questions.Initial settings) = true
+calls_quota (questions.Decide settings request response outcome attempt) = true
+calls_quota _ = false
 
 module _ {X Q C I A R Z D P L : Type 0} (makes : X → OutsideCall → X → Type 0) where
   abbrev pub needs_of : Parts X Q C I A R Z D P L → CacheNeeds

@@ -20,7 +20,7 @@ found P None (Some k) A B N a b n h = b k h
 found P (Some c) known A B N a b n h = a c h
 
 module _ {L : Type 0} where
-  by_buckets : (m n : Meaning L) (bucket : ℕ) → m.has bucket ≡ true → KeepsBuckets m n → KeepsThere m n bucket
+  pub by_buckets : (m n : Meaning L) (bucket : ℕ) → m.has bucket ≡ true → KeepsBuckets m n → KeepsThere m n bucket
   by_buckets m n bucket there k = record { has = k.has bucket ∙ there; cost = k.cost bucket; reward = k.reward bucket }
 
   other : (m n : Meaning L) (partition : RetryPartition) (book : Book) (number bucket : ℕ) → AddsBucket m partition book number n → m.has bucket ≡ true → bucket ≢ number
@@ -57,7 +57,7 @@ module _ {L : Type 0} where
       found (KeepsThere m n bucket) partition.custom (m.limiter_of partition) _ _ _ (λ c k. by_buckets m n bucket there k.1.buckets) (λ c k. by_buckets m n bucket there k.1.buckets)
       (by_limiter m n partition (means.at now) number bucket there) h
 
-  keeps_then : (m k n : Meaning L) (bucket : ℕ) → KeepsThere m k bucket → KeepsThere k n bucket → KeepsThere m n bucket
+  pub keeps_then : (m k n : Meaning L) (bucket : ℕ) → KeepsThere m k bucket → KeepsThere k n bucket → KeepsThere m n bucket
   keeps_then m k n bucket a b = record { has = b.has; cost = λ kind. b.cost kind ∙ a.cost kind; reward = b.reward ∙ a.reward }
 
   pub calls_keep : (means : Limiters L) (m : Meaning L) (calls : List QuotaCall) (n : Meaning L) (bucket : ℕ) → m.has bucket ≡ true → Chained (Calls means) m calls n → KeepsThere m n bucket

@@ -1,8 +1,7 @@
 -- What a decision's note tells of the bucket in force.
-use Rattle.std.specs.Prelude.{◌≡◌, Bool, true, false, List, ◌∷◌, ◌++◌, Option, None, Some}
+use Rattle.std.specs.Prelude.{◌≡◌, false, List, ◌∷◌, ◌++◌, Option, None, Some}
 use Rattle.std.specs.List.{AllByRecursion}
 use Rattle.client_retries.specs.Deciding.{sums_in}
-use Rattle.retry_policy.specs.Interceptors.{is_before_retry_loop}
 use Rattle.retry_policy.specs.Standing.{standing_bucket}
 use Rattle.retry_quota.specs.Meaning.{Meaning}
 use Rattle.run_grammar.specs.declared.answer.Answer.{Answer}
@@ -12,15 +11,9 @@ use Rattle.run_grammar.specs.declared.question.Question.{Question}
 use Rattle.run_grammar.specs.declared.question.Question.TheVariants as questions
 use Rattle.smithy_context.specs.StandingLayers.{StandingLayers}
 use Rattle.smithy_types.specs.declared.notes.DecideNote.{DecideNote}
+use Rattle.client_components.specs.Retrying.{calls_quota}
 use Rattle.client_components.specs.Serving.{Means, Served}
 use Rattle.client_components.specs.declared.parts.Parts.{Parts}
-
--- the questions that call the quota
-abbrev pub calls_quota : Question → Bool
-calls_quota (questions.Hook hook view) = is_before_retry_loop hook
-calls_quota (questions.Initial settings) = true
-calls_quota (questions.Decide settings request response outcome attempt) = true
-calls_quota _ = false
 
 -- the sums of the note are those of the bucket in force
 abbrev pub NoteTells : {L : Type 0} → Meaning L → StandingLayers → Option DecideNote → Type 0
