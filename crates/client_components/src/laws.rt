@@ -12,7 +12,8 @@ use retry_policy::ClassifyRetry;
 use retry_quota::Quota;
 
 /// A further attempt begins only where fewer were made than the standing setting allows, and the
-/// bucket in force granted its cost.
+/// bucket in force granted what it charges for the kind of the verdict. The costs are those of the
+/// quota behind the list: a bucket that is there keeps them.
 pub fn further_attempts_are_paid<
     X: Outside + Drop,
     Q: Quota + Drop,

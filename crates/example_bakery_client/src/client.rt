@@ -7,7 +7,7 @@ ghost use Rattle.example_bakery_service.specs.Model.{error_of, is_error};
 ghost use Rattle.client_call.specs.Ending.{ending_calls};
 ghost use Rattle.laws_client.specs.Retries.Attempting.{GrewAsAllowed, IsOfWholeRun};
 ghost use Rattle.laws_client.specs.Retries.Telling.{TellsBuckets};
-ghost use Rattle.client_components.specs.Paying.{Pays};
+ghost use Rattle.client_components.specs.Paying.{Pays, prices_of};
 ghost use Rattle.orchestrate.specs.Answered.{InputAnswered};
 ghost use Rattle.orchestrate.specs.Growth.{GrewByAtMost};
 ghost use Rattle.orchestrate.specs.Handing.{HadMemory};
@@ -89,7 +89,8 @@ pub fn invoke<
     ensures whole_run { InputAnswered In.accepts In.reads_as Out.accepts Out.reads_as is_error
         (λ p error. error ≡ error_of p.bytes) input fuel result client.old.log client.new.log }
     ensures paid { HadMemory result → (l : List Entry) × (client.new.log ≡ client.old.log ++ l)
-        × AllByRecursion (λ e. Pays e.question e.answer) l }
+        × AllByRecursion (λ e.
+        Pays (prices_of (Q.meaning client.new.parts.quota)) e.question e.answer) l }
     ensures attempts { IsOfWholeRun result → GrewAsAllowed client.old.log client.new.log }
     ensures bucket { HadMemory result → (l : List Entry) × (client.new.log ≡ client.old.log ++ l)
         × TellsBuckets (Q.meaning client.new.parts.quota) l }

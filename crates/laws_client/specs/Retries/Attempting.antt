@@ -2,7 +2,7 @@
 use Rattle.std.specs.Prelude.{◌≡◌, ℕ, ◌^◌, ◌<◌, ◌≤◌, max, List, ◌++◌, length, Some, Result, Ok, Err}
 use Rattle.std.specs.List.{AllByRecursion}
 use Rattle.laws_client.specs.Attempts.Deciding.{attempts_begun}
-use Rattle.client_components.specs.Paying.{Pays}
+use Rattle.client_components.specs.Paying.{Pays, Prices}
 use Rattle.orchestrate.specs.declared.execution.InvokeError.{InvokeError}
 use Rattle.orchestrate.specs.declared.execution.InvokeError.TheVariants.{Sdk, Unfinished, WrongType, OutOfMemory}
 use Rattle.retry_policy.specs.Standing.{standing_retry}
@@ -24,10 +24,10 @@ AllowsAtMost n _ = Unit {0}
 abbrev pub BeginsAtMostAllowed : List Entry → Type 0
 BeginsAtMostAllowed l = (n : ℕ) → AllByRecursion (λ e. AllowsAtMost n e.question) l → attempts_begun l ≤ max 1 n
 
--- so does each whole run whose further attempts are paid for
+-- so does each whole run whose further attempts are paid for, at any prices
 abbrev pub SettingsBoundAttempts : Type 0
-SettingsBoundAttempts = (stop : StopPoint) (p : Payload) (l : List Entry) → IsWhole stop (start p) l → length l < 2 ^ 64
-    → AllByRecursion (λ e. Pays e.question e.answer) l → BeginsAtMostAllowed l
+SettingsBoundAttempts = (prices : Prices) (stop : StopPoint) (p : Payload) (l : List Entry) → IsWhole stop (start p) l → length l < 2 ^ 64
+    → AllByRecursion (λ e. Pays prices e.question e.answer) l → BeginsAtMostAllowed l
 
 -- the answer is that of a whole run
 abbrev pub IsOfWholeRun : {X E : Type 0} → Result X (InvokeError E) → Type 0

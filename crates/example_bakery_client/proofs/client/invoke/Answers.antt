@@ -16,4 +16,4 @@ pub returns-clause-attempts : goal.returns-clause-attempts
 returns-clause-attempts g c = λ whole.
     let handed = c.invoke.ensures.related (had_memory _ whole) in
     let paid = c.further_attempts_are_paid.ensures _ _ handed.0 (handed.2 c.args.client.now [] refl) in
-    grew_as_allowed _ _ c.args.fuel (omega arith) c.settings_bound_attempts.ensures (handed.0, handed.1, paid) g.In.Wire.accepts g.In.Wire.reads_as _ _ _ _ c.args.input _ whole c.invoke.ensures.answered
+    grew_as_allowed _ _ _ c.args.fuel (omega arith) c.settings_bound_attempts.ensures (handed.0, handed.1, paid) g.In.Wire.accepts g.In.Wire.reads_as _ _ _ _ c.args.input _ whole c.invoke.ensures.answered
