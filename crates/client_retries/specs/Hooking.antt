@@ -3,9 +3,10 @@ use Rattle.std.specs.Prelude.{◌≡◌, ◌⊎◌, ℕ, Bool, true, false, if�
 use Rattle.outside.specs.Calls.{OutsideCall, Poison}
 use Rattle.retry_policy.specs.Interceptors.{is_after_deserialization}
 use Rattle.retry_quota.specs.Calls.{Calls}
+use Rattle.retry_quota.specs.Meaning.{IsKept}
 use Rattle.run_grammar.specs.declared.answer.Answer.{Answer}
 use Rattle.run_grammar.specs.declared.answer.Answer.TheVariants.{Hooked}
-use Rattle.smithy_base.specs.Chain.{RunsChain}
+use Rattle.smithy_base.specs.Chain.{RunsChain, RunsInPart}
 use Rattle.smithy_base.specs.Requests.{no_answer}
 use Rattle.smithy_context.specs.Context.{view_of}
 use Rattle.smithy_context.specs.Layer.{mentioned}
@@ -70,3 +71,9 @@ module _ {Q P L I : Type 0} (quota : QuotaMeans Q P L) (chain : InterceptorMeans
   Hooks verdict hook view old q a new calls after =
       ((is_operations hook ≡ true) × (a ≡ Hooked no_answer) × (new ≡ old) × (calls ≡ []) × (after ≡ q))
       ⊎ ((is_operations hook ≡ false) × RunsHook verdict hook view old q a new calls after)
+
+  -- where memory is wanting: nothing was offered yet, or all was, and some of the chain, from its left end on, had their turns
+  abbrev pub Stops : RetryAction → Hook → HookView → List I → Q → List I → Q → Type 0
+  Stops verdict hook view old q new after =
+      ((new ≡ old) × IsKept (quota.meaning q) (quota.meaning after))
+      ⊎ ((before : List I) × Offers verdict hook view old q before after × RunsInPart chain.names chain.hooks chain.runs hook view before new)

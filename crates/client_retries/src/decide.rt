@@ -33,7 +33,7 @@ pub fn decide<X: Outside, Q: Quota, C: ClassifyRetry>(
     quota: &mut Q,
     context: &InterceptorContext,
 ) -> Result<Answer, OutOfMemory>
-    ensures { IfOk result (λ a. (calls : _) × Chained X.makes outside.old calls outside.new
+    ensures ok { IfOk result (λ a. (calls : _) × Chained X.makes outside.old calls outside.new
         × IsDecided (record {
           meaning = Q.meaning;
           permit_bucket = Q.permit_bucket;
@@ -43,6 +43,9 @@ pub fn decide<X: Outside, Q: Quota, C: ClassifyRetry>(
         })
         (verdict_of C.says context.now classifiers.now RetryAction.NoActionIndicated)
         time_source context.now strategy.old quota.old a strategy.new calls quota.new) }
+    ensures outside { OnErr result ((calls : _) × Chained X.makes outside.old calls outside.new) }
+    ensures quota { OnErr result (StepsOrStays (limiters_by Q.Limiter.at Q.Limiter.after_acquire
+        Q.Limiter.reply_to Q.Limiter.after_update) (Q.meaning quota.old) (Q.meaning quota.new)) }
 {
     match strategy {
         RetryStrategy::Never(never) => {
@@ -83,7 +86,7 @@ fn decide_standard<X: Outside, Q: Quota, C: ClassifyRetry>(
     quota: &mut Q,
     context: &InterceptorContext,
 ) -> Result<Answer, OutOfMemory>
-    ensures { IfOk result (λ a. (calls : _) × Chained X.makes outside.old calls outside.new
+    ensures ok { IfOk result (λ a. (calls : _) × Chained X.makes outside.old calls outside.new
         × StandardDecides (record {
           meaning = Q.meaning;
           permit_bucket = Q.permit_bucket;
@@ -93,6 +96,9 @@ fn decide_standard<X: Outside, Q: Quota, C: ClassifyRetry>(
         })
         (verdict_of C.says context.now classifiers.now RetryAction.NoActionIndicated)
         time_source context.now strategy.old quota.old a strategy.new calls quota.new) }
+    ensures outside { OnErr result ((calls : _) × Chained X.makes outside.old calls outside.new) }
+    ensures quota { OnErr result (StepsOrStays (limiters_by Q.Limiter.at Q.Limiter.after_acquire
+        Q.Limiter.reply_to Q.Limiter.after_update) (Q.meaning quota.old) (Q.meaning quota.new)) }
 {
     let verdict = run_classifiers(classifiers, context);
     let moment = present(time_source, outside);

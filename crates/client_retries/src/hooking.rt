@@ -1,6 +1,8 @@
 //! Hook.
-ghost use Rattle.std.specs.Prelude.{◌≡◌, ℕ, IfOk, OnOk};
-ghost use Rattle.client_retries.specs.Hooking.{Hooks, Offers, is_operations, poisoning, seen_context};
+ghost use Rattle.std.specs.Prelude.{◌≡◌, ℕ, IfOk, OnErr, OnOk};
+ghost use Rattle.client_retries.specs.Hooking.{Hooks, Offers, Stops, is_operations, poisoning};
+ghost use Rattle.client_retries.specs.Hooking.{seen_context};
+ghost use Rattle.retry_quota.specs.Meaning.{IsKept};
 ghost use Rattle.retry_policy.specs.Interceptors.{is_after_deserialization, is_before_retry_loop};
 ghost use Rattle.retry_policy.specs.Verdict.{verdict_of};
 ghost use Rattle.retry_quota.specs.Calls.{Calls, limiters_by};
@@ -25,7 +27,8 @@ use std::alloc::Global;
 /// them: the bucket of the standing partition before the retry loop, and the classifiers' verdict
 /// once a response is read. Where the chain then gives a connection up, the outside is told.
 ///
-/// All interceptors are the client's, so the operation's first hook runs none.
+/// All interceptors are the client's, so the operation's first hook runs none. Without memory no
+/// interceptor was offered anything, or all were, and those that had run keep what they did.
 pub fn hook<X: Outside, Q: Quota, C: ClassifyRetry, I: TakeOffer>(
     alloc: Global,
     classifiers: &[C],
@@ -35,7 +38,7 @@ pub fn hook<X: Outside, Q: Quota, C: ClassifyRetry, I: TakeOffer>(
     hook: Hook,
     view: &HookView,
 ) -> Result<Answer, OutOfMemory>
-    ensures { IfOk result (λ a. (calls : _) × Chained X.makes outside.old calls outside.new
+    ensures ok { IfOk result (λ a. (calls : _) × Chained X.makes outside.old calls outside.new
         × Hooks (record {
           meaning = Q.meaning;
           permit_bucket = Q.permit_bucket;
@@ -52,6 +55,23 @@ pub fn hook<X: Outside, Q: Quota, C: ClassifyRetry, I: TakeOffer>(
         })
         (verdict_of C.says (seen_context view.now) classifiers.now RetryAction.NoActionIndicated)
         hook view.now interceptors.old quota.old a interceptors.new calls quota.new) }
+    ensures outside { OnErr result ((calls : _) × Chained X.makes outside.old calls outside.new) }
+    ensures err { OnErr result (Stops (record {
+          meaning = Q.meaning;
+          permit_bucket = Q.permit_bucket;
+          permit_amount = Q.permit_amount;
+          limiters = limiters_by Q.Limiter.at
+              Q.Limiter.after_acquire Q.Limiter.reply_to Q.Limiter.after_update;
+        })
+        (record {
+          names = I.names;
+          hooks = I.hooks;
+          runs = I.runs;
+          with_bucket = I.with_bucket;
+          with_verdict = I.with_verdict;
+        })
+        (verdict_of C.says (seen_context view.now) classifiers.now RetryAction.NoActionIndicated)
+        hook view.now interceptors.old quota.old interceptors.new quota.new) }
 {
     if is_operations(hook) {
         return Ok(Answer::Hooked(HookReply::done()));
@@ -90,7 +110,7 @@ fn offer<Q: Quota, C: ClassifyRetry, I: TakeOffer>(
     hook: Hook,
     view: &HookView,
 ) -> Result<(), OutOfMemory>
-    ensures { OnOk result (Offers
+    ensures ok { OnOk result (Offers
         (record {
           meaning = Q.meaning;
           permit_bucket = Q.permit_bucket;
@@ -107,6 +127,8 @@ fn offer<Q: Quota, C: ClassifyRetry, I: TakeOffer>(
         })
         (verdict_of C.says (seen_context view.now) classifiers.now RetryAction.NoActionIndicated)
         hook view.now interceptors.old quota.old interceptors.new quota.new) }
+    ensures err { OnErr result ((interceptors.new ≡ interceptors.old)
+        × IsKept (Q.meaning quota.old) (Q.meaning quota.new)) }
 {
     if is_before_retry_loop(hook) {
         return offer_bucket(alloc, interceptors, quota, view);
@@ -124,7 +146,7 @@ fn offer_bucket<Q: Quota, I: TakeOffer>(
     quota: &mut Q,
     view: &HookView,
 ) -> Result<(), OutOfMemory>
-    ensures { OnOk result ((number : ℕ)
+    ensures ok { OnOk result ((number : ℕ)
         × Chained (Calls (limiters_by Q.Limiter.at Q.Limiter.after_acquire Q.Limiter.reply_to
         Q.Limiter.after_update)) (Q.meaning quota.old)
         (finding_bucket (standing_partition view.now.settings) (standing_spec view.now.settings)
@@ -138,6 +160,8 @@ fn offer_bucket<Q: Quota, I: TakeOffer>(
           with_verdict = I.with_verdict;
         })
         (standing_partition view.now.settings) number interceptors.old)) }
+    ensures err { OnErr result ((interceptors.new ≡ interceptors.old)
+        × IsKept (Q.meaning quota.old) (Q.meaning quota.new)) }
 {
     let Some(partition) = standing_partition(&view.settings) else {
         return Ok(());

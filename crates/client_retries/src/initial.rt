@@ -23,7 +23,7 @@ pub fn initial<X: Outside, Q: Quota>(
     quota: &mut Q,
     settings: &Settings,
 ) -> Result<Answer, OutOfMemory>
-    ensures { IfOk result (λ a. (calls : _) × Chained X.makes outside.old calls outside.new
+    ensures ok { IfOk result (λ a. (calls : _) × Chained X.makes outside.old calls outside.new
         × Begun (record {
           meaning = Q.meaning;
           permit_bucket = Q.permit_bucket;
@@ -32,6 +32,9 @@ pub fn initial<X: Outside, Q: Quota>(
               Q.Limiter.after_acquire Q.Limiter.reply_to Q.Limiter.after_update;
         })
         time_source settings.now strategy.old quota.old a strategy.new calls quota.new) }
+    ensures outside { OnErr result ((calls : _) × Chained X.makes outside.old calls outside.new) }
+    ensures quota { OnErr result (IsKept (Q.meaning quota.old) (Q.meaning quota.new)) }
+    ensures strategy { OnErr result (strategy.new ≡ strategy.old) }
 {
     match strategy {
         RetryStrategy::Never(never) => Ok(answer_of(never.should_attempt_initial_request())),

@@ -12,3 +12,5 @@ pub mod Pendings
 pub mod PendingChoices
 pub mod OwnChoices
 pub mod OwnRuns
+pub mod SoundCalls
+pub mod KeptSleeps

@@ -1,6 +1,7 @@
 //! What holds of the questions of all runs. Each law is the contract of a function without a body.
 ghost use Rattle.retry_quota.specs.Calls.{limiters_by};
 ghost use Rattle.laws_client.specs.Questions.Answering.{AbsencesHaveCauses};
+ghost use Rattle.laws_client.specs.Questions.Calling.{CallsStaySound};
 ghost use Rattle.laws_client.specs.Questions.Handing.{PartsAreHanded};
 ghost use Rattle.laws_client.specs.Questions.Loading.{
   BeginsAlone,
@@ -9,6 +10,7 @@ ghost use Rattle.laws_client.specs.Questions.Loading.{
   PendingChoicesAsked,
 };
 ghost use Rattle.laws_client.specs.Questions.OwnLoads.{ChoicesGoOnWithOwn};
+ghost use Rattle.laws_client.specs.Questions.Sleeping.{WaitsAreOverAsTold};
 
 use auth_endpoint::AuthScheme;
 use client_auth::{DeserializeResponse, SerializeRequest};
@@ -185,6 +187,87 @@ pub fn choices_go_on_with_their_own_load<
     D: DeserializeResponse,
 >()
     ensures { ChoicesGoOnWithOwn (record {
+      makes = X.makes;
+      sleeps = X.sleeps;
+      quota = record {
+        meaning = Q.meaning;
+        permit_bucket = Q.permit_bucket;
+        permit_amount = Q.permit_amount;
+        limiters = limiters_by Q.Limiter.at
+            Q.Limiter.after_acquire Q.Limiter.reply_to Q.Limiter.after_update;
+      };
+      says = C.says;
+      chain = record {
+        names = I.names;
+        hooks = I.hooks;
+        runs = I.runs;
+        with_bucket = I.with_bucket;
+        with_verdict = I.with_verdict;
+      };
+      names = A.names;
+      signs = A.signs;
+      polls = R.polls;
+      serializes = Z.serializes;
+      streams = D.streams;
+      deserializes = D.deserializes;
+    }) }
+{}
+
+/// The call that is open at a client's connector is sound (an upload that is watched was read
+/// before it was sent, the guard of an open body has counted its bytes) at the client's start, once
+/// outside and quota are exchanged, and behind whatever is served. So of each entry that is served:
+/// a Transmit failed only as the connector did in this ask; a Body is Read with the bytes of all
+/// asks, and Pending only where there was no frame or behind 64 frames.
+pub fn calls_stay_sound<
+    X: Outside + Drop,
+    Q: Quota + Drop,
+    C: ClassifyRetry,
+    I: TakeOffer,
+    A: AuthScheme,
+    R: ResolveIdentity,
+    Z: SerializeRequest,
+    D: DeserializeResponse,
+>()
+    ensures { CallsStaySound (record {
+      makes = X.makes;
+      sleeps = X.sleeps;
+      quota = record {
+        meaning = Q.meaning;
+        permit_bucket = Q.permit_bucket;
+        permit_amount = Q.permit_amount;
+        limiters = limiters_by Q.Limiter.at
+            Q.Limiter.after_acquire Q.Limiter.reply_to Q.Limiter.after_update;
+      };
+      says = C.says;
+      chain = record {
+        names = I.names;
+        hooks = I.hooks;
+        runs = I.runs;
+        with_bucket = I.with_bucket;
+        with_verdict = I.with_verdict;
+      };
+      names = A.names;
+      signs = A.signs;
+      polls = R.polls;
+      serializes = Z.serializes;
+      streams = D.streams;
+      deserializes = D.deserializes;
+    }) }
+{}
+
+/// Over an outside with sleeps: where a Start was answered Started and the role's sleep was left
+/// alone since, a Wait for it is Ready only where the outside said, of that sleep, that it is over.
+pub fn waits_are_over_as_told<
+    X: Outside + Drop,
+    Q: Quota + Drop,
+    C: ClassifyRetry,
+    I: TakeOffer,
+    A: AuthScheme,
+    R: ResolveIdentity,
+    Z: SerializeRequest,
+    D: DeserializeResponse,
+>()
+    ensures { WaitsAreOverAsTold (record {
       makes = X.makes;
       sleeps = X.sleeps;
       quota = record {
