@@ -1,5 +1,5 @@
 //! Choose, with a lazy cache of identities.
-ghost use Rattle.std.specs.Prelude.{◌≡◌, ◌⊎◌, ◌∷◌, [], ℕ, Option, None, Some, Ok, IfOk, OnOk};
+ghost use Rattle.std.specs.Prelude.{◌≡◌, ◌⊎◌, ◌∷◌, [], ℕ, Option, None, Some, Ok, IfOk, OnOk, OnErr};
 ghost use Rattle.identity_cell.specs.LazyCache.{timeout_by};
 ghost use Rattle.outside.specs.Calls.{OfTimers};
 ghost use Rattle.smithy_types.specs.declared.timers.TimersCall.TheVariants.{Start};
@@ -57,11 +57,12 @@ pub fn choose_cached<X: Outside, A: AuthScheme, R: ResolveIdentity>(
     outside: &mut X,
     settings: &Settings,
 ) -> Result<Answer, OutOfMemory>
-    ensures { IfOk result (λ a. (calls : _) × Chained X.makes outside.old calls outside.new
+    ensures ok { IfOk result (λ a. (calls : _) × Chained X.makes outside.old calls outside.new
         × ChoosesCached R.polls A.names options.now schemes.now endpoint.now time_source
         settings.now
         sources.old cache.old current.old load.old a sources.new cache.new current.new load.new
         calls) }
+    ensures err { OnErr result ((calls : _) × Chained X.makes outside.old calls outside.new) }
 {
     let before = endpoint_before(endpoint, settings)?;
     match pick(alloc, options, schemes, sources, &before, settings)? {
@@ -109,10 +110,11 @@ fn resolve_cached<X: Outside, R: ResolveIdentity>(
     id: Text,
     endpoint: Option<Shared<Endpoint>>,
 ) -> Result<Answer, OutOfMemory>
-    ensures { IfOk result (λ a. (calls : _) × Chained X.makes outside.old calls outside.new
+    ensures ok { IfOk result (λ a. (calls : _) × Chained X.makes outside.old calls outside.new
         × ResolvesCached R.polls time_source settings.now id endpoint
         sources.old cache.old current.old load.old a sources.new cache.new current.new load.new
         calls) }
+    ensures err { OnErr result ((calls : _) × Chained X.makes outside.old calls outside.new) }
 {
     match open_load(alloc, time_source, cache, current, outside, settings, &id)? {
         Opened::Hit(identity) => chosen(alloc, id, identity, endpoint, ChooseNote::Hit),
@@ -134,9 +136,10 @@ fn open_load<X: Outside>(
     settings: &Settings,
     id: &Text,
 ) -> Result<Opened, OutOfMemory>
-    ensures { IfOk result (λ found. (calls : _) × Chained X.makes outside.old calls outside.new
+    ensures ok { IfOk result (λ found. (calls : _) × Chained X.makes outside.old calls outside.new
         × OpensLoad time_source settings.now id.now cache.old current.old found cache.new
         current.new calls) }
+    ensures err { OnErr result ((calls : _) × Chained X.makes outside.old calls outside.new) }
 {
     match current {
         Some(_) => Ok(Opened::Load),
@@ -155,8 +158,9 @@ fn look_up<X: Outside>(
     id: &Text,
 ) -> Result<Opened, OutOfMemory>
     requires { current.old ≡ None }
-    ensures { IfOk result (λ found. (calls : _) × Chained X.makes outside.old calls outside.new
+    ensures ok { IfOk result (λ found. (calls : _) × Chained X.makes outside.old calls outside.new
         × LooksUp time_source settings.now id.now cache.old found cache.new current.new calls) }
+    ensures err { OnErr result ((calls : _) × Chained X.makes outside.old calls outside.new) }
 {
     let scheme = SchemeId::new(id.clone()?);
     let kept = scheme.clone()?;
@@ -183,7 +187,7 @@ fn begin_load<X: Outside>(
     ticket: u64,
     now: u64,
 ) -> Result<(), OutOfMemory>
-    ensures { OnOk result ((sleep : Option ℕ)
+    ensures ok { OnOk result ((sleep : Option ℕ)
         × (cache.new ≡ cache.old)
         × (current.new ≡ Some (record {
           id = scheme;
@@ -196,6 +200,7 @@ fn begin_load<X: Outside>(
         × Chained X.makes outside.old
         (OfTimers (Start (timeout_by cache.old.terms settings.now) (Ok sleep)) ∷ [])
         outside.new) }
+    ensures err { OnErr result ((calls : _) × Chained X.makes outside.old calls outside.new) }
 {
     let begun = cache.open(alloc, outside, scheme, ticket, now, settings)?;
     *current = Some(begun);
@@ -233,10 +238,11 @@ fn go_on<X: Outside, R: ResolveIdentity>(
     id: Text,
     endpoint: Option<Shared<Endpoint>>,
 ) -> Result<Answer, OutOfMemory>
-    ensures { IfOk result (λ a. (calls : _) × Chained X.makes outside.old calls outside.new
+    ensures ok { IfOk result (λ a. (calls : _) × Chained X.makes outside.old calls outside.new
         × GoesOnLoading R.polls id endpoint
         sources.old cache.old current.old load.old a sources.new cache.new current.new load.new
         calls) }
+    ensures err { OnErr result ((calls : _) × Chained X.makes outside.old calls outside.new) }
 {
     let polled = ask_registered(alloc, sources, load, outside, &id)?;
     let answer = go_on_with(alloc, polled, cache, current, load, outside, id, endpoint)?;
@@ -254,9 +260,10 @@ fn go_on_with<X: Outside>(
     id: Text,
     endpoint: Option<Shared<Endpoint>>,
 ) -> Result<Answer, OutOfMemory>
-    ensures { IfOk result (λ a. (calls : _) × Chained X.makes outside.old calls outside.new
+    ensures ok { IfOk result (λ a. (calls : _) × Chained X.makes outside.old calls outside.new
         × Continues id endpoint polled cache.old current.old load.old a cache.new current.new
         load.new calls) }
+    ensures err { OnErr result ((calls : _) × Chained X.makes outside.old calls outside.new) }
 {
     let Some(answer) = polled else {
         return Ok(Answer::Absent);
@@ -284,9 +291,10 @@ fn wait<X: Outside>(
     load: &mut OpenLoad,
     outside: &mut X,
 ) -> Result<Answer, OutOfMemory>
-    ensures { IfOk result (λ a. (calls : _) × Chained X.makes outside.old calls outside.new
+    ensures ok { IfOk result (λ a. (calls : _) × Chained X.makes outside.old calls outside.new
         × (StaysPending cache.old current.old load.old a cache.new current.new load.new calls
         ⊎ TimesOut cache.old current.old load.old a cache.new current.new load.new calls)) }
+    ensures err { OnErr result ((calls : _) × Chained X.makes outside.old calls outside.new) }
 {
     let Some(waiting) = current else {
         return Ok(Answer::Pending);

@@ -67,9 +67,10 @@ pub fn choose<X: Outside, A: AuthScheme, R: ResolveIdentity>(
     outside: &mut X,
     settings: &Settings,
 ) -> Result<Answer, OutOfMemory>
-    ensures { IfOk result (λ a. (calls : _) × Chained X.makes outside.old calls outside.new
+    ensures ok { IfOk result (λ a. (calls : _) × Chained X.makes outside.old calls outside.new
         × Chooses A.names R.polls options.now schemes.now endpoint.now settings.now sources.old
         load.old a sources.new load.new calls) }
+    ensures err { OnErr result ((calls : _) × Chained X.makes outside.old calls outside.new) }
 {
     let before = endpoint_before(endpoint, settings)?;
     match pick(alloc, options, schemes, sources, &before, settings)? {
@@ -183,8 +184,9 @@ fn resolve<X: Outside, R: ResolveIdentity>(
     id: Text,
     endpoint: Option<Shared<Endpoint>>,
 ) -> Result<Answer, OutOfMemory>
-    ensures { IfOk result (λ a. (calls : _) × Chained X.makes outside.old calls outside.new
+    ensures ok { IfOk result (λ a. (calls : _) × Chained X.makes outside.old calls outside.new
         × Resolves R.polls id endpoint sources.old load.old a sources.new load.new calls) }
+    ensures err { OnErr result ((calls : _) × Chained X.makes outside.old calls outside.new) }
 {
     match ask_registered(alloc, sources, load, outside, &id)? {
         None => Ok(Answer::Absent),
@@ -212,9 +214,10 @@ pub(crate) fn ask_registered<X: Outside, R: ResolveIdentity>(
     outside: &mut X,
     id: &Text,
 ) -> Result<Option<IdentityPoll>, OutOfMemory>
-    ensures { IfOk result (λ polled. (calls : _) × Chained X.makes outside.old calls outside.new
+    ensures ok { IfOk result (λ polled. (calls : _) × Chained X.makes outside.old calls outside.new
         × Asks R.polls id.now (position (λ s. is_id id.now s.id) sources.old) sources.old load.old
         polled sources.new load.new calls) }
+    ensures err { OnErr result ((calls : _) × Chained X.makes outside.old calls outside.new) }
 {
     let Some(place) = place_of(sources, id) else {
         return Ok(None);

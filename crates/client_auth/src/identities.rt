@@ -1,5 +1,5 @@
 //! A client's identities: where they come from, their cache, and what is open of a choice.
-ghost use Rattle.std.specs.Prelude.{◌≡◌, [], IfOk};
+ghost use Rattle.std.specs.Prelude.{◌≡◌, [], IfOk, OnErr};
 ghost use Rattle.smithy_types.specs.Chain.{Chained};
 ghost use Rattle.client_auth.specs.Choosing.{no_load};
 ghost use Rattle.client_auth.specs.Identities.{
@@ -90,10 +90,11 @@ impl<R: ResolveIdentity> Identities<R> {
         outside: &mut X,
         settings: &Settings,
     ) -> Result<Answer, OutOfMemory>
-        ensures { IfOk result (λ a. (calls : _) × Chained X.makes outside.old calls outside.new
+        ensures ok { IfOk result (λ a. (calls : _) × Chained X.makes outside.old calls outside.new
             × ChoosesBy A.names R.polls options.now schemes.now endpoint.now time_source
             settings.now
             self.old.cached self.old a self.new calls) }
+        ensures err { OnErr result ((calls : _) × Chained X.makes outside.old calls outside.new) }
     {
         let sources = self.sources.as_mut_slice();
         let load = &mut self.load;

@@ -1,5 +1,5 @@
 //! Where identities come from.
-ghost use Rattle.std.specs.Prelude.{◌≡◌, IfOk, map};
+ghost use Rattle.std.specs.Prelude.{◌≡◌, IfOk, map, OnErr};
 ghost use Rattle.smithy_types.specs.Chain.{Chained};
 ghost use Rattle.client_auth.specs.Sourcing.{AsksSource};
 
@@ -33,8 +33,9 @@ pub(crate) fn ask_source<X: Outside, R: ResolveIdentity>(
     outside: &mut X,
     id: &Text,
 ) -> Result<IdentityPoll, OutOfMemory>
-    ensures { IfOk result (λ p. (calls : _) × Chained X.makes outside.old calls outside.new
+    ensures ok { IfOk result (λ p. (calls : _) × Chained X.makes outside.old calls outside.new
         × AsksSource R.polls id.now source.old p source.new calls) }
+    ensures err { OnErr result ((calls : _) × Chained X.makes outside.old calls outside.new) }
 {
     match source {
         IdentitySource::Outside => outside.resolve(alloc, id.as_str()),

@@ -1,4 +1,5 @@
 pub mod CauseProofs
+pub mod Called
 pub mod ChainLemmas
 pub mod FaultProofs
 pub mod Fitting

@@ -1,5 +1,5 @@
 //! Body: the open response's body is read to its end.
-ghost use Rattle.std.specs.Prelude.{◌≡◌, IfOk};
+ghost use Rattle.std.specs.Prelude.{◌≡◌, IfOk, OnErr};
 ghost use Rattle.smithy_types.specs.Chain.{ByCalls, Chained};
 ghost use Rattle.client_call.specs.Reading.{Asks, ClosesAs, Opens, ReadsOn, Reads, Runs, closing};
 ghost use Rattle.client_call.specs.Reading.{failed_call};
@@ -27,8 +27,9 @@ pub fn body<X: Outside>(
     call: &mut Call,
     outside: &mut X,
 ) -> Result<Answer, OutOfMemory>
-    ensures { IfOk result (λ a. ByCalls X.makes outside.old
+    ensures ok { IfOk result (λ a. ByCalls X.makes outside.old
         (Reads (X.sleeps outside.old) settings.now response.now call.old a call.new) outside.new) }
+    ensures err { OnErr result ((calls : _) × Chained X.makes outside.old calls outside.new) }
 {
     open(alloc, settings, response, call, outside);
     read_on(alloc, call, outside)
@@ -59,8 +60,9 @@ fn read_on<X: Outside>(
     call: &mut Call,
     outside: &mut X,
 ) -> Result<Answer, OutOfMemory>
-    ensures { IfOk result (λ a. ByCalls X.makes outside.old
+    ensures ok { IfOk result (λ a. ByCalls X.makes outside.old
         (ReadsOn (X.sleeps outside.old) call.old a call.new) outside.new) }
+    ensures err { OnErr result ((calls : _) × Chained X.makes outside.old calls outside.new) }
 {
     match mem::replace(call, Call::Left) {
         Call::Reading(open) => {
@@ -86,8 +88,9 @@ fn frames<X: Outside>(
     reading: &mut Reading,
     outside: &mut X,
 ) -> Result<Stop, OutOfMemory>
-    ensures { IfOk result (λ stop. ByCalls X.makes outside.old
+    ensures ok { IfOk result (λ stop. ByCalls X.makes outside.old
         (Runs (X.sleeps outside.old) reading.old stop reading.new) outside.new) }
+    ensures err { OnErr result ((calls : _) × Chained X.makes outside.old calls outside.new) }
 {
     for _ in 0..FRAMES {
         match frame(alloc, reading, outside)? {
@@ -105,8 +108,9 @@ fn frame<X: Outside>(
     reading: &mut Reading,
     outside: &mut X,
 ) -> Result<Option<Stop>, OutOfMemory>
-    ensures { IfOk result (λ stop. ByCalls X.makes outside.old
+    ensures ok { IfOk result (λ stop. ByCalls X.makes outside.old
         (Asks (X.sleeps outside.old) reading.old stop reading.new) outside.new) }
+    ensures err { OnErr result ((calls : _) × Chained X.makes outside.old calls outside.new) }
 {
     let frame = outside.frame(alloc)?;
     let over = frame.ends();

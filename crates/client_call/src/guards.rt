@@ -1,5 +1,5 @@
 //! The guards that a response's body is read through.
-ghost use Rattle.std.specs.Prelude.{◌≡◌, IfOk};
+ghost use Rattle.std.specs.Prelude.{◌≡◌, IfOk, OnErr};
 ghost use Rattle.smithy_types.specs.Chain.{ByCalls, Chained};
 ghost use Rattle.client_call.specs.Guarding.{GuardsLength, GuardsThroughput, LengthPasses, Passes};
 ghost use Rattle.client_call.specs.Guarding.{SetsUp, ThroughputPasses, stopped, stopping};
@@ -46,8 +46,9 @@ impl Guards {
         outside: &mut X,
         frame: Polled,
     ) -> Result<Polled, OutOfMemory>
-        ensures { IfOk result (λ passed. ByCalls X.makes outside.old
+        ensures ok { IfOk result (λ passed. ByCalls X.makes outside.old
             (Passes (X.sleeps outside.old) self.old frame passed self.new) outside.new) }
+        ensures err { OnErr result ((calls : _) × Chained X.makes outside.old calls outside.new) }
     {
         let enforced = pass_length(alloc, &mut self.length, frame)?;
         pass_throughput(alloc, &mut self.throughput, outside, enforced)
@@ -119,8 +120,9 @@ fn pass_throughput<X: Outside>(
     outside: &mut X,
     frame: Polled,
 ) -> Result<Polled, OutOfMemory>
-    ensures { IfOk result (λ passed. ByCalls X.makes outside.old
+    ensures ok { IfOk result (λ passed. ByCalls X.makes outside.old
         (ThroughputPasses (X.sleeps outside.old) guard.old frame passed guard.new) outside.new) }
+    ensures err { OnErr result ((calls : _) × Chained X.makes outside.old calls outside.new) }
 {
     match guard {
         Some(body) => body.judge(alloc, outside, frame),

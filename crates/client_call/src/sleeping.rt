@@ -1,5 +1,5 @@
 //! Start and Wait: the sleeps of a client, one for each role.
-ghost use Rattle.std.specs.Prelude.{◌≡◌, [], IfOk, None};
+ghost use Rattle.std.specs.Prelude.{◌≡◌, [], IfOk, None, OnErr};
 ghost use Rattle.smithy_types.specs.Chain.{ByCalls, Chained};
 ghost use Rattle.client_call.specs.Sleeping.{Starts, Waits, give_up_all, giving_up, no_sleeps};
 ghost use Rattle.client_call.specs.Sleeping.{sleep_of, with_sleep};
@@ -76,9 +76,11 @@ pub fn start<X: Outside>(
     role: Role,
     nanos: Option<u64>,
 ) -> Result<Answer, OutOfMemory>
-    ensures { IfOk result (λ a.
+    ensures ok { IfOk result (λ a.
         ByCalls X.makes outside.old (Starts has_sleep role nanos sleeps.old a sleeps.new)
         outside.new) }
+    ensures err { OnErr result ((calls : _) × Chained X.makes outside.old calls outside.new) }
+    ensures sleeps { OnErr result (sleeps.new ≡ with_sleep role None sleeps.old) }
 {
     if !has_sleep {
         return Ok(Answer::Absent);

@@ -1,5 +1,5 @@
 //! Transmit: the request is sent, and a response awaited.
-ghost use Rattle.std.specs.Prelude.{◌≡◌, IfOk, OnOk};
+ghost use Rattle.std.specs.Prelude.{◌≡◌, IfOk, OnOk, OnErr};
 ghost use Rattle.smithy_types.specs.Chain.{ByCalls, Chained};
 ghost use Rattle.client_call.specs.Protection.{standing_stall, upload_marked, upload_options};
 ghost use Rattle.client_call.specs.Transmitting.{Begins, BeginsAnew, Pends, SentAs, StallsAs};
@@ -23,9 +23,10 @@ pub fn transmit<X: Outside>(
     call: &mut Call,
     outside: &mut X,
 ) -> Result<Answer, OutOfMemory>
-    ensures { IfOk result (λ a. ByCalls X.makes outside.old
+    ensures ok { IfOk result (λ a. ByCalls X.makes outside.old
         (Transmits (X.sleeps outside.old) settings.now request.now call.old a call.new)
         outside.new) }
+    ensures err { OnErr result ((calls : _) × Chained X.makes outside.old calls outside.new) }
 {
     let Some(request) = request else {
         return Ok(Answer::Absent);
@@ -44,8 +45,9 @@ fn begin<X: Outside>(
     call: &mut Call,
     outside: &mut X,
 ) -> Result<Option<Upload>, OutOfMemory>
-    ensures { IfOk result (λ upload. ByCalls X.makes outside.old
+    ensures ok { IfOk result (λ upload. ByCalls X.makes outside.old
         (Begins settings.now request.now call.old upload) outside.new) }
+    ensures err { OnErr result ((calls : _) × Chained X.makes outside.old calls outside.new) }
 {
     match mem::replace(call, Call::Left) {
         Call::Sending(upload) => Ok(upload),
@@ -64,8 +66,9 @@ fn begin_anew<X: Outside>(
     call: &mut Call,
     outside: &mut X,
 ) -> Result<Option<Upload>, OutOfMemory>
-    ensures { IfOk result (λ upload. ByCalls X.makes outside.old
+    ensures ok { IfOk result (λ upload. ByCalls X.makes outside.old
         (BeginsAnew settings.now request.now call.old upload) outside.new) }
+    ensures err { OnErr result ((calls : _) × Chained X.makes outside.old calls outside.new) }
 {
     call.quiet(outside);
     let upload = watch(alloc, settings, request, outside)?;
@@ -80,10 +83,11 @@ fn watch<X: Outside>(
     request: &HttpRequest,
     outside: &mut X,
 ) -> Result<Option<Upload>, OutOfMemory>
-    ensures { IfOk result (λ upload. ByCalls X.makes outside.old
+    ensures ok { IfOk result (λ upload. ByCalls X.makes outside.old
         (WatchesMaybe (upload_options (upload_marked settings.now) (standing_stall settings.now))
         request.now upload)
         outside.new) }
+    ensures err { OnErr result ((calls : _) × Chained X.makes outside.old calls outside.new) }
 {
     match upload_options(settings) {
         Some(options) => {
@@ -102,8 +106,9 @@ fn answer<X: Outside>(
     call: &mut Call,
     outside: &mut X,
 ) -> Result<Answer, OutOfMemory>
-    ensures { IfOk result (λ a. ByCalls X.makes outside.old
+    ensures ok { IfOk result (λ a. ByCalls X.makes outside.old
         (SentAs (X.sleeps outside.old) upload sent a call.new) outside.new) }
+    ensures err { OnErr result ((calls : _) × Chained X.makes outside.old calls outside.new) }
 {
     match sent {
         Sent::Pending => pend(alloc, upload, call, outside),
@@ -125,8 +130,9 @@ fn pend<X: Outside>(
     call: &mut Call,
     outside: &mut X,
 ) -> Result<Answer, OutOfMemory>
-    ensures { IfOk result (λ a. ByCalls X.makes outside.old
+    ensures ok { IfOk result (λ a. ByCalls X.makes outside.old
         (Pends (X.sleeps outside.old) upload a call.new) outside.new) }
+    ensures err { OnErr result ((calls : _) × Chained X.makes outside.old calls outside.new) }
 {
     let Some(watched) = upload else {
         *call = Call::Sending(None);

@@ -1,6 +1,6 @@
 //! The upload of a request, as it is watched.
-ghost use Rattle.std.specs.Prelude.{◌≡◌, IfOk};
-ghost use Rattle.smithy_types.specs.Chain.{ByCalls};
+ghost use Rattle.std.specs.Prelude.{◌≡◌, IfOk, OnErr};
+ghost use Rattle.smithy_types.specs.Chain.{ByCalls, Chained};
 ghost use Rattle.client_call.specs.Uploading.{Looks, Watches, body_bytes};
 
 use crate::WholeBody;
@@ -27,8 +27,9 @@ impl Upload {
         body: &Body,
         outside: &mut X,
     ) -> Result<Upload, OutOfMemory>
-        ensures { IfOk result (λ made. ByCalls X.makes outside.old
+        ensures ok { IfOk result (λ made. ByCalls X.makes outside.old
             (Watches options (body_bytes body.now) made) outside.new) }
+        ensures err { OnErr result ((calls : _) × Chained X.makes outside.old calls outside.new) }
     {
         let whole = WholeBody::of(body)?;
         let now = outside.now();
@@ -48,8 +49,9 @@ impl Upload {
         alloc: Global,
         outside: &mut X,
     ) -> Result<Option<Fault>, OutOfMemory>
-        ensures { IfOk result (λ fault. ByCalls X.makes outside.old
+        ensures ok { IfOk result (λ fault. ByCalls X.makes outside.old
             (Looks (X.sleeps outside.old) self.old fault self.new) outside.new) }
+        ensures err { OnErr result ((calls : _) × Chained X.makes outside.old calls outside.new) }
     {
         self.check.check(alloc, outside, &mut self.log)
     }

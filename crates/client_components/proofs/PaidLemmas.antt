@@ -196,7 +196,7 @@ module _ {X Q P L C I A R Z D : Type 0} (means : Means X Q P L C I A R Z D) wher
   all_paid old new [] h = tt
   all_paid old new (e ∷ es) (mid, serves, rest) = (
     pays_later (prices_of (held means mid)) (prices_of (held means new)) e.question e.answer
-      (kept_prices (held means mid) (held means new) (λ bucket there. all_keep means mid new es bucket there rest))
-      (pays means old mid e.question e.answer serves),
+        (kept_prices (held means mid) (held means new) (λ bucket there. all_keep means mid new es bucket there rest))
+        (pays means old mid e.question e.answer serves),
     all_paid mid new es rest,
   )

@@ -77,7 +77,6 @@ module _ {X Q P L C I A R Z D : Type 0} (means : Means X Q P L C I A R Z D) wher
   stays old new (questions.Abandon _) a h e = ap held h.2
   stays old new questions.Park a h e = ap held h.2
 
-
 -- ---- a bucket that is there stays there, with its costs
 
 module _ {L : Type 0} (limiters : Limiters L) where

@@ -1,5 +1,6 @@
 pub mod Calling
 pub mod Choosing
+pub mod Lacking
 pub mod Paying
 pub mod Resting
 pub mod Retrying

@@ -1,5 +1,7 @@
 //! Start, Wait, Load, Transmit, Body, Abandon and Park.
-ghost use Rattle.std.specs.Prelude.{◌≡◌, IfOk};
+ghost use Rattle.std.specs.Prelude.{◌≡◌, IfOk, None, OnErr};
+ghost use Rattle.client_call.specs.Sleeping.{with_sleep};
+ghost use Rattle.client_components.specs.Lacking.{CalledOutside};
 ghost use Rattle.client_components.specs.Calling.{Abandons, Parks, Reads, Starts, Transmits, Waits};
 ghost use Rattle.client_components.specs.Calling.{is_choose};
 
@@ -38,7 +40,9 @@ impl<
         role: Role,
         nanos: Option<u64>,
     ) -> Result<Answer, OutOfMemory>
-        ensures { IfOk result (λ a. Starts X.makes self.old role nanos a self.new) }
+        ensures ok { IfOk result (λ a. Starts X.makes self.old role nanos a self.new) }
+        ensures err { OnErr result (CalledOutside X.makes self.old self.new
+            × (self.new ≡ record self.old { sleeps = with_sleep role None self.old.sleeps; outside = self.new.outside })) }
     {
         start(
             alloc,
@@ -64,8 +68,10 @@ impl<
         settings: &Settings,
         request: &Option<Shared<HttpRequest>>,
     ) -> Result<Answer, OutOfMemory>
-        ensures { IfOk result (λ a. Transmits X.makes X.sleeps self.old settings.now request.now a
+        ensures ok { IfOk result (λ a. Transmits X.makes X.sleeps self.old settings.now request.now a
             self.new) }
+        ensures err { OnErr result (CalledOutside X.makes self.old self.new
+            × (self.new ≡ record self.old { call = self.new.call; outside = self.new.outside })) }
     {
         transmit(alloc, settings, request, &mut self.call, &mut self.outside)
     }
@@ -77,8 +83,10 @@ impl<
         settings: &Settings,
         response: &Option<Shared<HttpResponse>>,
     ) -> Result<Answer, OutOfMemory>
-        ensures { IfOk result (λ a. Reads X.makes X.sleeps self.old settings.now response.now a
+        ensures ok { IfOk result (λ a. Reads X.makes X.sleeps self.old settings.now response.now a
             self.new) }
+        ensures err { OnErr result (CalledOutside X.makes self.old self.new
+            × (self.new ≡ record self.old { call = self.new.call; outside = self.new.outside })) }
     {
         body(alloc, settings, response, &mut self.call, &mut self.outside)
     }

@@ -1,5 +1,6 @@
 //! Choose.
-ghost use Rattle.std.specs.Prelude.{IfOk};
+ghost use Rattle.std.specs.Prelude.{◌≡◌, IfOk, OnErr};
+ghost use Rattle.client_components.specs.Lacking.{CalledOutside};
 ghost use Rattle.client_components.specs.Choosing.{Chooses};
 
 use crate::Parts;
@@ -27,8 +28,10 @@ impl<
 > Parts<X, Q, C, I, A, R, Z, D> {
     /// Chooses an auth scheme, and asks for its identity.
     pub fn choose(&mut self, alloc: Global, settings: &Settings) -> Result<Answer, OutOfMemory>
-        ensures { IfOk result (λ a. Chooses X.makes A.names R.polls self.old settings.now a
+        ensures ok { IfOk result (λ a. Chooses X.makes A.names R.polls self.old settings.now a
             self.new) }
+        ensures err { OnErr result (CalledOutside X.makes self.old self.new
+            × (self.new ≡ record self.old { identities = self.new.identities; outside = self.new.outside })) }
     {
         self.identities.choose(
             alloc,

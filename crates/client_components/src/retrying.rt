@@ -1,5 +1,7 @@
 //! Configure, Hook, Initial and Decide.
-ghost use Rattle.std.specs.Prelude.{◌≡◌, IfOk, None};
+ghost use Rattle.std.specs.Prelude.{◌≡◌, IfOk, None, OnErr, if◌then◌else◌};
+ghost use Rattle.client_components.specs.Lacking.{DecidesNothing, HookStops, InitialStops};
+ghost use Rattle.client_components.specs.Resting.{Ends};
 ghost use Rattle.retry_quota.specs.Calls.{limiters_by};
 ghost use Rattle.client_components.specs.Retrying.{Begins, Configures, Decides, RunsHook, decided_view};
 ghost use Rattle.client_components.specs.Retrying.{is_first, sleeps_after, sleeps_ended};
@@ -38,7 +40,9 @@ impl<
 > Parts<X, Q, C, I, A, R, Z, D> {
     /// A step of the configuration. Before the first, what an earlier run left open is ended.
     pub fn configure(&mut self, stage: ConfigureStage) -> Result<Answer, OutOfMemory>
-        ensures { IfOk result (λ a. Configures X.makes self.old stage a self.new) }
+        ensures ok { IfOk result (λ a. Configures X.makes self.old stage a self.new) }
+        ensures err { OnErr result (if is_first stage then Ends X.makes self.old self.new
+            else (self.new ≡ self.old)) }
     {
         if is_first(stage) {
             self.end_open();
@@ -58,7 +62,7 @@ impl<
         hook: Hook,
         view: &HookView,
     ) -> Result<Answer, OutOfMemory>
-        ensures { IfOk result (λ a. RunsHook X.makes C.says
+        ensures ok { IfOk result (λ a. RunsHook X.makes C.says
             (record {
               meaning = Q.meaning;
               permit_bucket = Q.permit_bucket;
@@ -73,6 +77,21 @@ impl<
               with_bucket = I.with_bucket;
               with_verdict = I.with_verdict;
             }) self.old hook view.now a self.new) }
+        ensures err { OnErr result (HookStops X.makes C.says
+            (record {
+              meaning = Q.meaning;
+              permit_bucket = Q.permit_bucket;
+              permit_amount = Q.permit_amount;
+              limiters = limiters_by Q.Limiter.at
+                  Q.Limiter.after_acquire Q.Limiter.reply_to Q.Limiter.after_update;
+            })
+            (record {
+              names = I.names;
+              hooks = I.hooks;
+              runs = I.runs;
+              with_bucket = I.with_bucket;
+              with_verdict = I.with_verdict;
+            }) self.old hook view.now self.new) }
     {
         end_sleeps(&mut self.sleeps, &mut self.outside, hook);
         run_hook(
@@ -88,7 +107,7 @@ impl<
 
     /// Whether an attempt is begun.
     pub fn initial(&mut self, alloc: Global, settings: &Settings) -> Result<Answer, OutOfMemory>
-        ensures { IfOk result (λ a. Begins X.makes
+        ensures ok { IfOk result (λ a. Begins X.makes
             (record {
               meaning = Q.meaning;
               permit_bucket = Q.permit_bucket;
@@ -97,6 +116,13 @@ impl<
                   Q.Limiter.after_acquire Q.Limiter.reply_to Q.Limiter.after_update;
             }) self.old
             settings.now a self.new) }
+        ensures err { OnErr result (InitialStops X.makes (record {
+          meaning = Q.meaning;
+          permit_bucket = Q.permit_bucket;
+          permit_amount = Q.permit_amount;
+          limiters = limiters_by Q.Limiter.at
+              Q.Limiter.after_acquire Q.Limiter.reply_to Q.Limiter.after_update;
+        }) self.old self.new) }
     {
         initial(
             alloc,
@@ -118,7 +144,7 @@ impl<
         outcome: &Option<Shared<Outcome>>,
         attempt: u64,
     ) -> Result<Answer, OutOfMemory>
-        ensures { IfOk result (λ a. Decides X.makes C.says
+        ensures ok { IfOk result (λ a. Decides X.makes C.says
             (record {
               meaning = Q.meaning;
               permit_bucket = Q.permit_bucket;
@@ -127,6 +153,15 @@ impl<
                   Q.Limiter.after_acquire Q.Limiter.reply_to Q.Limiter.after_update;
             }) self.old
             (decided_view settings.now request.now response.now outcome.now attempt) a self.new) }
+        ensures err { OnErr result (DecidesNothing X.makes C.says
+            (record {
+              meaning = Q.meaning;
+              permit_bucket = Q.permit_bucket;
+              permit_amount = Q.permit_amount;
+              limiters = limiters_by Q.Limiter.at
+                  Q.Limiter.after_acquire Q.Limiter.reply_to Q.Limiter.after_update;
+            }) self.old
+            (decided_view settings.now request.now response.now outcome.now attempt) self.new) }
     {
         let context = context_of(decided_view(settings, request, response, outcome, attempt)?);
         decide(

@@ -1,5 +1,6 @@
 //! A question is answered by the part of its kind.
-ghost use Rattle.std.specs.Prelude.{IfOk};
+ghost use Rattle.std.specs.Prelude.{IfOk, OnErr};
+ghost use Rattle.client_components.specs.Lacking.{LeftBy};
 ghost use Rattle.retry_quota.specs.Calls.{limiters_by};
 ghost use Rattle.client_components.specs.Serving.{Answers};
 
@@ -32,7 +33,7 @@ impl<
 > Parts<X, Q, C, I, A, R, Z, D> {
     /// Answers one question.
     pub fn answer(&mut self, alloc: Global, question: &Question) -> Result<Answer, OutOfMemory>
-        ensures { IfOk result (λ a. Answers (record {
+        ensures ok { IfOk result (λ a. Answers (record {
           makes = X.makes;
           sleeps = X.sleeps;
           quota = record {
@@ -57,6 +58,21 @@ impl<
           streams = D.streams;
           deserializes = D.deserializes;
         }) self.old question.now a self.new) }
+        ensures err { OnErr result (LeftBy X.makes C.says
+            (record {
+              meaning = Q.meaning;
+              permit_bucket = Q.permit_bucket;
+              permit_amount = Q.permit_amount;
+              limiters = limiters_by Q.Limiter.at
+                  Q.Limiter.after_acquire Q.Limiter.reply_to Q.Limiter.after_update;
+            })
+            (record {
+              names = I.names;
+              hooks = I.hooks;
+              runs = I.runs;
+              with_bucket = I.with_bucket;
+              with_verdict = I.with_verdict;
+            }) self.old question.now self.new) }
     {
         match question {
             Question::Configure { stage, .. } => self.configure(*stage),

@@ -1,5 +1,5 @@
 -- Decide.
-use Rattle.std.specs.Prelude.{◌≡◌, ℕ, Bool, IsSome, IsTrue, ◌↔◌, List, [], ◌∷◌, ◌++◌, Option, None, Some, option_map}
+use Rattle.std.specs.Prelude.{◌≡◌, ◌⊎◌, ℕ, Bool, IsSome, IsTrue, ◌↔◌, List, [], ◌∷◌, ◌++◌, Option, None, Some, option_map}
 use Rattle.outside.specs.Calls.{OutsideCall, Word}
 use Rattle.outside.specs.Clock.{clock_calls}
 use Rattle.retry_policy.specs.Decision.{Decides}
@@ -66,3 +66,16 @@ module _ {Q P L : Type 0} (means : QuotaMeans Q P L) where
   IsDecided verdict time_source c (Standard standard) q a new calls after =
       (kept : StandardRetryStrategy P) × (new ≡ Standard kept)
       × StandardDecides verdict time_source c standard q a kept calls after
+
+  -- where memory is wanting, nothing was decided, or the note of what was decided is lost
+  abbrev pub StopsDeciding : RetryAction → InterceptorContext → StandardRetryStrategy P → Q → StandardRetryStrategy P → Q → Type 0
+  StopsDeciding verdict c old q new after =
+      ((new ≡ old) × IsKept (means.meaning q) (means.meaning after))
+      ⊎ ((now : Option ℕ) × (word : ℕ) × (decision : Decision)
+      × Decides means.limiters (means.meaning q) c.view.settings c verdict now word (held_by means old) decision (held_by means new) (means.meaning after))
+
+  -- a strategy that never retries wants none
+  abbrev pub DecisionStops : RetryAction → InterceptorContext → RetryStrategy P → Q → RetryStrategy P → Q → Type 0
+  DecisionStops verdict c (Never never) q new after = ⊥
+  DecisionStops verdict c (Standard standard) q new after =
+      (kept : StandardRetryStrategy P) × (new ≡ Standard kept) × StopsDeciding verdict c standard q kept after

@@ -1,6 +1,7 @@
 //! Decide.
-ghost use Rattle.std.specs.Prelude.{◌≡◌, Ok, Err, IfOk, IfSome, IsTrue, MatchOption};
-ghost use Rattle.client_retries.specs.Deciding.{IsDecided, StandardDecides, paused, sums_in};
+ghost use Rattle.std.specs.Prelude.{◌≡◌, Ok, Err, IfOk, IfSome, IsTrue, MatchOption, OnErr};
+ghost use Rattle.client_retries.specs.Deciding.{DecisionStops, IsDecided, StandardDecides};
+ghost use Rattle.client_retries.specs.Deciding.{StopsDeciding, paused, sums_in};
 ghost use Rattle.client_retries.specs.Hooking.{seen_context};
 ghost use Rattle.retry_policy.specs.Standing.{standing_bucket};
 ghost use Rattle.retry_policy.specs.Verdict.{verdict_of};
@@ -44,8 +45,15 @@ pub fn decide<X: Outside, Q: Quota, C: ClassifyRetry>(
         (verdict_of C.says context.now classifiers.now RetryAction.NoActionIndicated)
         time_source context.now strategy.old quota.old a strategy.new calls quota.new) }
     ensures outside { OnErr result ((calls : _) × Chained X.makes outside.old calls outside.new) }
-    ensures quota { OnErr result (StepsOrStays (limiters_by Q.Limiter.at Q.Limiter.after_acquire
-        Q.Limiter.reply_to Q.Limiter.after_update) (Q.meaning quota.old) (Q.meaning quota.new)) }
+    ensures err { OnErr result (DecisionStops (record {
+      meaning = Q.meaning;
+      permit_bucket = Q.permit_bucket;
+      permit_amount = Q.permit_amount;
+      limiters = limiters_by Q.Limiter.at
+          Q.Limiter.after_acquire Q.Limiter.reply_to Q.Limiter.after_update;
+    })
+        (verdict_of C.says context.now classifiers.now RetryAction.NoActionIndicated)
+        context.now strategy.old quota.old strategy.new quota.new) }
 {
     match strategy {
         RetryStrategy::Never(never) => {
@@ -97,8 +105,15 @@ fn decide_standard<X: Outside, Q: Quota, C: ClassifyRetry>(
         (verdict_of C.says context.now classifiers.now RetryAction.NoActionIndicated)
         time_source context.now strategy.old quota.old a strategy.new calls quota.new) }
     ensures outside { OnErr result ((calls : _) × Chained X.makes outside.old calls outside.new) }
-    ensures quota { OnErr result (StepsOrStays (limiters_by Q.Limiter.at Q.Limiter.after_acquire
-        Q.Limiter.reply_to Q.Limiter.after_update) (Q.meaning quota.old) (Q.meaning quota.new)) }
+    ensures err { OnErr result (StopsDeciding (record {
+      meaning = Q.meaning;
+      permit_bucket = Q.permit_bucket;
+      permit_amount = Q.permit_amount;
+      limiters = limiters_by Q.Limiter.at
+          Q.Limiter.after_acquire Q.Limiter.reply_to Q.Limiter.after_update;
+    })
+        (verdict_of C.says context.now classifiers.now RetryAction.NoActionIndicated)
+        context.now strategy.old quota.old strategy.new quota.new) }
 {
     let verdict = run_classifiers(classifiers, context);
     let moment = present(time_source, outside);

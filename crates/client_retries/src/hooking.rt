@@ -57,12 +57,12 @@ pub fn hook<X: Outside, Q: Quota, C: ClassifyRetry, I: TakeOffer>(
         hook view.now interceptors.old quota.old a interceptors.new calls quota.new) }
     ensures outside { OnErr result ((calls : _) × Chained X.makes outside.old calls outside.new) }
     ensures err { OnErr result (Stops (record {
-          meaning = Q.meaning;
-          permit_bucket = Q.permit_bucket;
-          permit_amount = Q.permit_amount;
-          limiters = limiters_by Q.Limiter.at
-              Q.Limiter.after_acquire Q.Limiter.reply_to Q.Limiter.after_update;
-        })
+      meaning = Q.meaning;
+      permit_bucket = Q.permit_bucket;
+      permit_amount = Q.permit_amount;
+      limiters = limiters_by Q.Limiter.at
+          Q.Limiter.after_acquire Q.Limiter.reply_to Q.Limiter.after_update;
+    })
         (record {
           names = I.names;
           hooks = I.hooks;

@@ -1,7 +1,8 @@
 //! Initial.
-ghost use Rattle.std.specs.Prelude.{◌≡◌, IfOk};
+ghost use Rattle.std.specs.Prelude.{◌≡◌, IfOk, OnErr};
 ghost use Rattle.client_retries.specs.Initially.{Begun, answer_of};
 ghost use Rattle.retry_quota.specs.Calls.{limiters_by};
+ghost use Rattle.retry_quota.specs.Meaning.{IsKept};
 ghost use Rattle.smithy_types.specs.Chain.{Chained};
 
 use crate::RetryStrategy;

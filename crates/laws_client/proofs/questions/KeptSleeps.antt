@@ -69,7 +69,7 @@ number_of : (sleep : Option ℕ) → IsSome sleep → (number : ℕ) × (sleep �
 number_of None e = absurd (cc e)
 number_of (Some number) e = (number, refl)
 
--- a Wait of an running sleep is Ready by one call
+-- a Wait of an open sleep is Ready by one call
 waited : (sleep : Option ℕ) (number : ℕ) (calls : List OutsideCall) → sleep ≡ Some number → sleeping.Waits sleep answers.Ready calls → calls ≡ OfTimers (Ready number true) ∷ []
 waited sleep number calls is h = subst (λ s. sleeping.Waits s answers.Ready calls) is h
 

@@ -2,8 +2,8 @@ use Rattle.std.proofs.Common.{refl}
 use Rattle.client_auth.specs.declared.choose.Picked.TheVariants.{Refused}
 use Rattle.client_auth.proofs.cached.choose_cached.Goals as goal
 
-pub returns-in-Refused : goal.returns-in-Refused
-returns-in-Refused g c = (
+pub returns-in-Refused-clause-ok : goal.returns-in-Refused-clause-ok
+returns-in-Refused-clause-ok g c = (
   _,
   refl,
   record {

@@ -4,8 +4,8 @@ use Rattle.smithy_types.proofs.ChainLemmas.{chained_join, chained_one}
 use Rattle.client_auth.specs.Caching.{giving_up_open}
 use Rattle.client_auth.proofs.cached.go_on_with.Goals as goal
 
-pub returns-in_ok-choice-in-Ready : goal.returns-in_ok-choice-in-Ready
-returns-in_ok-choice-in-Ready g c =
+pub returns-in_ok-choice-in-Ready-clause-ok : goal.returns-in_ok-choice-in-Ready-clause-ok
+returns-in_ok-choice-in-Ready-clause-ok g c =
     rw (c.in-Some.is, c.in-Ready.is) (
       _,
       chained_join g.X.Outside.makes c.args.outside.now c.word-word.new.self c.keep.new.outside (Word c.word-word.result ∷ []) (giving_up_open c.args.current.now)

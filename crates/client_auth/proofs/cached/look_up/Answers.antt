@@ -5,9 +5,9 @@ use Rattle.smithy_types.specs.declared.timers.TimersCall.TheVariants.{Start}
 use Rattle.smithy_types.proofs.ChainLemmas.{chained_join}
 use Rattle.client_auth.proofs.cached.look_up.Goals as goal
 
-pub returns : goal.returns
-returns g c =
-    let begun = c.in_ok-begin_load-in-Load.ensures in (
+pub returns-clause-ok : goal.returns-clause-ok
+returns-clause-ok g c =
+    let begun = c.in_ok-begin_load-in-Load.ensures.ok in (
       _,
       chained_join g.X.Outside.makes _ _ _ _ _ c.present-moment.ensures.calls begun.3,
       record {
@@ -25,3 +25,6 @@ returns g c =
         calls_are = refl;
       },
     )
+
+pub returns-in_err-begin_load-in-Load-clause-err : goal.returns-in_err-begin_load-in-Load-clause-err
+returns-in_err-begin_load-in-Load-clause-err g c = (_, chained_join g.X.Outside.makes _ _ _ _ _ c.present-moment.ensures.calls c.in_err-begin_load-in-Load.ensures.err.1)

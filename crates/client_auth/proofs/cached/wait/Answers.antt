@@ -6,8 +6,8 @@ use Rattle.client_auth.specs.Choosing.{ending_load}
 use Rattle.client_auth.proofs.CacheCalls.{asks_sleep, waits_over, waits_timed}
 use Rattle.client_auth.proofs.cached.wait.Goals as goal
 
-pub returns-in-None : goal.returns-in-None
-returns-in-None g c =
+pub returns-in-None-clause-ok : goal.returns-in-None-clause-ok
+returns-in-None-clause-ok g c =
     let asked = rw c.in-None.is at c.in_ok-wait.ensures.asked in
     let same = rw c.in-None.is at c.in_ok-wait.ensures.ok in
     rw c.in-Some.is (
@@ -16,8 +16,8 @@ returns-in-None g c =
       inl (refl, same, refl, refl, refl),
     )
 
-pub returns-in-Some-2 : goal.returns-in-Some-2
-returns-in-Some-2 g c =
+pub returns-in-Some-2-clause-ok : goal.returns-in-Some-2-clause-ok
+returns-in-Some-2-clause-ok g c =
     let asked = rw c.in-Some-2.is at c.in_ok-wait.ensures.asked in (
       _,
       chained_join g.X.Outside.makes _ _ _ _ _ (waits_over g.X.Timers.relates g.X.Outside.makes g.met.X.Outside.timers_make c.in-Some.waiting.sleep _ _ asked) c.end_load.ensures.calls,

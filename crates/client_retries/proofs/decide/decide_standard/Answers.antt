@@ -1,4 +1,4 @@
-use Rattle.std.proofs.Common.{refl}
+use Rattle.std.proofs.Common.{refl, inl, inr}
 use Rattle.smithy_types.proofs.ChainLemmas.{chained_more}
 use Rattle.client_retries.proofs.BucketStays.{in_force}
 use Rattle.client_retries.proofs.decide.decide_standard.Goals as goal
@@ -8,8 +8,8 @@ sums_in_force-requires g c =
     let made = rw c.in-Some.is at c.in_ok-decision.ensures in
     in_force _ _ _ _ _ _ _ _ _ _ _ (rw made at c.should_attempt_retry-decided.ensures.decides)
 
-pub returns-in_ok-note-in-Some : goal.returns-in_ok-note-in-Some
-returns-in_ok-note-in-Some g c =
+pub returns-in_ok-note-in-Some-clause-ok : goal.returns-in_ok-note-in-Some-clause-ok
+returns-in_ok-note-in-Some-clause-ok g c =
     let made = rw c.in-Some.is at c.in_ok-decision.ensures in
     let decides = rw made at c.should_attempt_retry-decided.ensures.decides in (
       _,
@@ -28,8 +28,8 @@ returns-in_ok-note-in-Some g c =
       },
     )
 
-pub returns-in-None : goal.returns-in-None
-returns-in-None g c =
+pub returns-in-None-clause-ok : goal.returns-in-None-clause-ok
+returns-in-None-clause-ok g c =
     let missing = rw c.in-None.is at c.in_ok-decision.ensures in (
       _,
       chained_more g.X.Outside.makes _ _ _ _ _ c.present-moment.ensures.calls c.word-word.ensures,
@@ -45,3 +45,16 @@ returns-in-None g c =
         );
       },
     )
+
+-- without memory the clock was asked and a word drawn
+pub returns-in_err-decision-clause-outside : goal.returns-in_err-decision-clause-outside
+returns-in_err-decision-clause-outside g c = (_, chained_more g.X.Outside.makes _ _ _ _ _ c.present-moment.ensures.calls c.word-word.ensures)
+
+pub returns-in_err-note-in-Some-clause-outside : goal.returns-in_err-note-in-Some-clause-outside
+returns-in_err-note-in-Some-clause-outside g c = (_, chained_more g.X.Outside.makes _ _ _ _ _ c.present-moment.ensures.calls c.word-word.ensures)
+
+pub returns-in_err-note-in-Some-clause-err : goal.returns-in_err-note-in-Some-clause-err
+returns-in_err-note-in-Some-clause-err g c =
+    let made = rw c.in-Some.is at c.in_ok-decision.ensures in
+    let decides = rw made at c.should_attempt_retry-decided.ensures.decides in
+    inr (c.present-moment.result, c.word-word.result, c.in-Some.decision, rw (c.settings-settings.ensures, c.run_each-verdict.ensures) at decides)

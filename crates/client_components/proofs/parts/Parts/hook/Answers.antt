@@ -4,8 +4,8 @@ use Rattle.std.proofs.lemmas.Result.{IfOk-weaker}
 use Rattle.smithy_types.proofs.ChainLemmas.{chained_join}
 use Rattle.client_components.proofs.parts.Parts.hook.Goals as goal
 
-pub returns : goal.returns
-returns g c =
+pub returns-clause-ok : goal.returns-clause-ok
+returns-clause-ok g c =
     let new = c.hook.new.interceptors in
     let old = c.args.self.now.interceptors in
     let many : old.len ≡ length new = omega (arith, c.as_mut_slice.ensures.len, c.hook.auto.interceptors) in
@@ -15,4 +15,4 @@ returns g c =
       made = chained_join g.X.Outside.makes _ _ _ _ _ c.end_sleeps.ensures.calls h.1;
       hooks = rw back h.2;
       others = rw c.end_sleeps.ensures.sleeps refl;
-    }) (rw (c.as_slice.ensures.value, c.as_mut_slice.ensures.value) at c.hook.ensures)
+    }) (rw (c.as_slice.ensures.value, c.as_mut_slice.ensures.value) at c.hook.ensures.ok)
