@@ -1,3 +1,4 @@
 pub mod Asked
 pub mod CacheCalls
 pub mod PickedOnes
+pub mod Lacking

@@ -1,5 +1,6 @@
 use Rattle.std.proofs.Common.{refl}
 use Rattle.smithy_types.proofs.ChainLemmas.{chained_join}
+use Rattle.client_auth.proofs.Lacking.{called}
 use Rattle.client_auth.proofs.cached.go_on.Goals as goal
 
 pub returns-clause-ok : goal.returns-clause-ok
@@ -20,4 +21,5 @@ returns-clause-ok g c =
     )
 
 pub returns-in_err-answer-clause-err : goal.returns-in_err-answer-clause-err
-returns-in_err-answer-clause-err g c = (_, chained_join g.X.Outside.makes _ _ _ _ _ c.in_ok-polled.ensures.ok.1 c.in_err-answer.ensures.err.1)
+returns-in_err-answer-clause-err g c =
+    called g.X.Outside.makes _ _ _ _ (chained_join g.X.Outside.makes _ _ _ _ _ c.in_ok-polled.ensures.ok.1 c.in_err-answer.ensures.err.1)

@@ -3,6 +3,7 @@ use Rattle.identity_cell.specs.LazyCache.{timeout_by}
 use Rattle.outside.specs.Calls.{OfTimers}
 use Rattle.smithy_types.specs.declared.timers.TimersCall.TheVariants.{Start}
 use Rattle.smithy_types.proofs.ChainLemmas.{chained_join}
+use Rattle.client_auth.proofs.Lacking.{called}
 use Rattle.client_auth.proofs.cached.look_up.Goals as goal
 
 pub returns-clause-ok : goal.returns-clause-ok
@@ -27,4 +28,5 @@ returns-clause-ok g c =
     )
 
 pub returns-in_err-begin_load-in-Load-clause-err : goal.returns-in_err-begin_load-in-Load-clause-err
-returns-in_err-begin_load-in-Load-clause-err g c = (_, chained_join g.X.Outside.makes _ _ _ _ _ c.present-moment.ensures.calls c.in_err-begin_load-in-Load.ensures.err.1)
+returns-in_err-begin_load-in-Load-clause-err g c =
+    called g.X.Outside.makes _ _ _ _ (chained_join g.X.Outside.makes _ _ _ _ _ c.present-moment.ensures.calls c.in_err-begin_load-in-Load.ensures.err.1)

@@ -1,6 +1,7 @@
 use Rattle.std.proofs.Common.{refl}
 use Rattle.smithy_types.proofs.ChainLemmas.{chained_join}
 use Rattle.client_auth.specs.declared.cached.Opened.TheVariants as opened
+use Rattle.client_auth.proofs.Lacking.{called}
 use Rattle.client_auth.proofs.cached.resolve_cached.Goals as goal
 
 pub returns-in_ok-answer-in-Load-clause-ok : goal.returns-in_ok-answer-in-Load-clause-ok
@@ -22,4 +23,5 @@ returns-in_ok-answer-in-Load-clause-ok g c =
     )
 
 pub returns-in_err-answer-in-Load-clause-err : goal.returns-in_err-answer-in-Load-clause-err
-returns-in_err-answer-in-Load-clause-err g c = (_, chained_join g.X.Outside.makes _ _ _ _ _ c.in_ok-identity.ensures.ok.1 c.in_err-answer-in-Load.ensures.err.1)
+returns-in_err-answer-in-Load-clause-err g c =
+    called g.X.Outside.makes _ _ _ _ (chained_join g.X.Outside.makes _ _ _ _ _ c.in_ok-identity.ensures.ok.1 c.in_err-answer-in-Load.ensures.err.1)

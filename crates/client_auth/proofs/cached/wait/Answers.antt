@@ -1,9 +1,10 @@
-use Rattle.std.proofs.Common.{refl, ap, inl, inr, append_assoc, false}
+use Rattle.std.proofs.Common.{refl, ap, inl, inr, append_assoc, false, true}
 use Rattle.run_grammar.specs.declared.answer.Answer.TheVariants as answers
 use Rattle.smithy_types.proofs.ChainLemmas.{chained_join}
 use Rattle.client_auth.specs.Caching.{asking_sleep, giving_up}
 use Rattle.client_auth.specs.Choosing.{ending_load}
 use Rattle.client_auth.proofs.CacheCalls.{asks_sleep, waits_over, waits_timed}
+use Rattle.client_auth.proofs.Lacking.{called}
 use Rattle.client_auth.proofs.cached.wait.Goals as goal
 
 pub returns-in-None-clause-ok : goal.returns-in-None-clause-ok
@@ -32,3 +33,7 @@ returns-in-Some-2-clause-ok g c =
         calls_are = append_assoc _ (giving_up c.in-Some.waiting.sleep) (ending_load c.args.load.now);
       }),
     )
+
+pub returns-in_err-wait-clause-err : goal.returns-in_err-wait-clause-err
+returns-in_err-wait-clause-err g c =
+    called g.X.Outside.makes _ _ _ _ (asks_sleep g.X.Timers.relates g.X.Outside.makes g.met.X.Outside.timers_make _ true _ _ c.in_err-wait.ensures.asked_err)

@@ -1,6 +1,7 @@
-use Rattle.std.proofs.Common.{refl, inl, inr}
+use Rattle.std.proofs.Common.{refl, inr}
 use Rattle.smithy_types.proofs.ChainLemmas.{chained_more}
 use Rattle.client_retries.proofs.BucketStays.{in_force}
+use Rattle.client_retries.proofs.Lacking.{called, lacking}
 use Rattle.client_retries.proofs.decide.decide_standard.Goals as goal
 
 pub sums_in_force-requires : goal.sums_in_force-requires
@@ -48,13 +49,15 @@ returns-in-None-clause-ok g c =
 
 -- without memory the clock was asked and a word drawn
 pub returns-in_err-decision-clause-outside : goal.returns-in_err-decision-clause-outside
-returns-in_err-decision-clause-outside g c = (_, chained_more g.X.Outside.makes _ _ _ _ _ c.present-moment.ensures.calls c.word-word.ensures)
+returns-in_err-decision-clause-outside g c =
+    called g.X.Outside.makes _ _ _ _ (chained_more g.X.Outside.makes _ _ _ _ _ c.present-moment.ensures.calls c.word-word.ensures)
 
 pub returns-in_err-note-in-Some-clause-outside : goal.returns-in_err-note-in-Some-clause-outside
-returns-in_err-note-in-Some-clause-outside g c = (_, chained_more g.X.Outside.makes _ _ _ _ _ c.present-moment.ensures.calls c.word-word.ensures)
+returns-in_err-note-in-Some-clause-outside g c =
+    called g.X.Outside.makes _ _ _ _ (chained_more g.X.Outside.makes _ _ _ _ _ c.present-moment.ensures.calls c.word-word.ensures)
 
 pub returns-in_err-note-in-Some-clause-err : goal.returns-in_err-note-in-Some-clause-err
 returns-in_err-note-in-Some-clause-err g c =
     let made = rw c.in-Some.is at c.in_ok-decision.ensures in
     let decides = rw made at c.should_attempt_retry-decided.ensures.decides in
-    inr (c.present-moment.result, c.word-word.result, c.in-Some.decision, rw (c.settings-settings.ensures, c.run_each-verdict.ensures) at decides)
+    lacking _ (inr (c.present-moment.result, c.word-word.result, c.in-Some.decision, rw (c.settings-settings.ensures, c.run_each-verdict.ensures) at decides))
