@@ -1,3 +1,4 @@
 pub mod Fitting
 pub mod PaidLemmas
 pub mod QuotaLemmas
+pub mod Stopping

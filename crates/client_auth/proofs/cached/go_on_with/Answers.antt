@@ -1,4 +1,4 @@
-use Rattle.std.proofs.Common.{refl, [], ◌∷◌}
+use Rattle.std.proofs.Common.{refl, [], ◌∷◌, ◌++◌}
 use Rattle.outside.specs.Calls.{Word}
 use Rattle.smithy_types.proofs.ChainLemmas.{chained_join, chained_one}
 use Rattle.client_auth.specs.Caching.{giving_up_open}
@@ -23,12 +23,12 @@ returns-in_ok-choice-in-Ready-clause-ok g c =
 
 pub returns-in_err-kept-in-Ready-clause-err : goal.returns-in_err-kept-in-Ready-clause-err
 returns-in_err-kept-in-Ready-clause-err g c =
-    called g.X.Outside.makes _ _ _ _
+    called g.X.Outside.makes _ _ _ ((Word c.word-word.result ∷ []) ++ giving_up_open c.args.current.now)
     (chained_join g.X.Outside.makes c.args.outside.now c.word-word.new.self c.keep.new.outside (Word c.word-word.result ∷ []) (giving_up_open c.args.current.now)
     (chained_one g.X.Outside.makes c.args.outside.now c.word-word.new.self (Word c.word-word.result) c.word-word.ensures) c.keep.ensures.calls)
 
 pub returns-in_err-choice-in-Ready-clause-err : goal.returns-in_err-choice-in-Ready-clause-err
 returns-in_err-choice-in-Ready-clause-err g c =
-    called g.X.Outside.makes _ _ _ _
+    called g.X.Outside.makes _ _ _ ((Word c.word-word.result ∷ []) ++ giving_up_open c.args.current.now)
     (chained_join g.X.Outside.makes c.args.outside.now c.word-word.new.self c.keep.new.outside (Word c.word-word.result ∷ []) (giving_up_open c.args.current.now)
     (chained_one g.X.Outside.makes c.args.outside.now c.word-word.new.self (Word c.word-word.result) c.word-word.ensures) c.keep.ensures.calls)
