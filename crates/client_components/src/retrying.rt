@@ -1,5 +1,5 @@
 //! Configure, Hook, Initial and Decide.
-ghost use Rattle.std.specs.Prelude.{◌≡◌, IfOk, None, OnErr, if◌then◌else◌};
+ghost use Rattle.std.specs.Prelude.{◌≡◌, IfOk, MatchBool, None, OnErr};
 ghost use Rattle.client_components.specs.Lacking.{DecidesNothing, HookStops, InitialStops};
 ghost use Rattle.client_components.specs.Resting.{Ends};
 ghost use Rattle.retry_quota.specs.Calls.{limiters_by};
@@ -41,8 +41,8 @@ impl<
     /// A step of the configuration. Before the first, what an earlier run left open is ended.
     pub fn configure(&mut self, stage: ConfigureStage) -> Result<Answer, OutOfMemory>
         ensures ok { IfOk result (λ a. Configures X.makes self.old stage a self.new) }
-        ensures err { OnErr result (if is_first stage then Ends X.makes self.old self.new
-            else (self.new ≡ self.old)) }
+        ensures err { OnErr result (MatchBool (is_first stage) (Ends X.makes self.old self.new)
+            (self.new ≡ self.old)) }
     {
         if is_first(stage) {
             self.end_open();
