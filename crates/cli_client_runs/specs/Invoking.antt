@@ -1,5 +1,5 @@
 -- One invocation of a client's operation.
-use Rattle.std.specs.Prelude.{◌≡◌, ◌⊎◌, ℕ, List, [], None, Some}
+use Rattle.std.specs.Prelude.{◌≡◌, ℕ, List, [], None, Some}
 use Rattle.json_scripts.specs.declared.client.terms.InvocationRecord.{InvocationRecord}
 use Rattle.client_components.specs.Resting.{Exchanges}
 use Rattle.rate_limit.specs.Pace.{Pace}
@@ -35,20 +35,6 @@ begun responses identities outside = record outside {
   call = Idle;
   load = None;
 }
-
-module _ {C I : Type 0} where
-  -- Where memory is wanting, outside and quota aren't left in the client: they did not go in, or both exchanges were made.
-  pub record BothExchanges (old : ScriptedClient C I) (outside : ScriptedOutside) (quota : Registers Pace) (i : InvocationRecord) (new : ScriptedClient C I) (outside_after : ScriptedOutside) (quota_after : Registers Pace) : Type 0 where
-    pub entered : ServiceWorld C I
-    pub left : ServiceWorld C I
-    pub own_outside : ScriptedOutside
-    pub own_quota : Registers Pace
-    pub enters : Exchanges Makes old.world.parts (begun i.responses old.identities outside) quota entered.parts own_outside own_quota
-    pub leaves : Exchanges Makes left.parts own_outside own_quota new.world.parts outside_after quota_after
-
-  abbrev pub CameBack : ScriptedClient C I → ScriptedOutside → Registers Pace → InvocationRecord → ScriptedClient C I → ScriptedOutside → Registers Pace → Type 0
-  CameBack old outside quota i new outside_after quota_after =
-      ((new.world.parts ≡ old.world.parts) × (quota_after ≡ quota)) ⊎ BothExchanges old outside quota i new outside_after quota_after
 
 module _ {C I : Type 0} (relates : ServiceWorld C I → List Entry → ServiceWorld C I → Type 0) where
   -- Outside and quota go into the client, the operation is run over it to this ending, each entry is answered from the

@@ -1,7 +1,7 @@
 //! One invocation of a client's operation.
-ghost use Rattle.std.specs.Prelude.{◌≡◌, [], IfOk, OnErr};
+ghost use Rattle.std.specs.Prelude.{◌≡◌, [], IfOk};
 ghost use Rattle.cli_client_runs.specs.Means.{ServedBy};
-ghost use Rattle.cli_client_runs.specs.Invoking.{CameBack, Invoked, InvokedNoting, head_of};
+ghost use Rattle.cli_client_runs.specs.Invoking.{Invoked, InvokedNoting, head_of};
 
 use crate::noting::{NotedRun, run_noting};
 use client_retries::TakeOffer;
@@ -29,7 +29,7 @@ pub fn invoke<C: ClassifyRetry, I: TakeOffer>(
     quota: &mut ClientQuota,
     invocation: InvocationRecord,
 ) -> Result<(List<Entry>, Ending), OutOfMemory>
-    ensures ok { IfOk result (λ ran. Invoked
+    ensures { IfOk result (λ ran. Invoked
         (ServedBy C.says (record {
           names = I.names;
           hooks = I.hooks;
@@ -38,8 +38,6 @@ pub fn invoke<C: ClassifyRetry, I: TakeOffer>(
           with_verdict = I.with_verdict;
         })) client.old outside.old
         quota.old invocation ran.0 ran.1 client.new outside.new quota.new) }
-    ensures err { OnErr result (CameBack client.old outside.old quota.old invocation client.new
-        outside.new quota.new) }
 {
     let InvocationRecord {
         input,
@@ -55,9 +53,13 @@ pub fn invoke<C: ClassifyRetry, I: TakeOffer>(
     client.world.swap_parts(outside, quota);
     let ran = run_over(alloc, &client.operation, &head, &mut client.world);
     client.world.swap_parts(outside, quota);
-    let ending = ran?;
-    let log = mem::replace(&mut client.world.log, List::new());
-    Ok((log, ending))
+    match ran {
+        Ok(ending) => {
+            let log = mem::replace(&mut client.world.log, List::new());
+            Ok((log, ending))
+        }
+        Err(refused) => Err(refused),
+    }
 }
 
 /// What was made of a client whose moments were noted.
