@@ -6,7 +6,7 @@ from typing import NamedTuple, Union
 
 from .program import Ran, path
 
-BAD_WORDS, BAD_SCRIPT, TOO_LARGE = 1, 2, 6
+BAD_WORDS, BAD_SCRIPT, TOO_LARGE, CHECK_NO = 1, 2, 6, 13
 FRONT = "smithy_replay: "
 
 
@@ -33,9 +33,9 @@ def run_told(*words: Union[str, bytes], text: Union[str, bytes] = "") -> Told:
 
 def run(*words: Union[str, bytes], text: Union[str, bytes] = "") -> Ran:
     """The same without standard error, which has a line with a reason exactly where the words or
-    the input were refused."""
+    the input were refused, or a text is no print."""
     told = run_told(*words, text=text)
-    if told.status in (BAD_WORDS, BAD_SCRIPT, TOO_LARGE):
+    if told.status in (BAD_WORDS, BAD_SCRIPT, TOO_LARGE, CHECK_NO):
         assert told.errors.startswith(FRONT) and told.errors.count("\n") == 1, told.errors
         assert "no reason was found" not in told.errors, told.errors
     else:

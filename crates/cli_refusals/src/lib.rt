@@ -1,9 +1,10 @@
-//! Why the program refused its arguments or its input, in a line for standard error; and a reader
-//! that keeps what it gave, so that this can be told afterwards.
+//! Why the program refused its arguments or its input, and why a text isn't a print, in lines for
+//! standard error; and a reader that keeps what it gave, so that this can be told afterwards.
 #![tactic(auto)]
 
 pub mod inputs;
 pub mod keeping;
+pub mod prints;
 pub mod refusals;
 pub mod schema_command;
 pub mod word_list;

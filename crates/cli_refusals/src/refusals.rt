@@ -1,6 +1,7 @@
 //! What is said of a call that was refused.
 
 use crate::inputs::input_line;
+use crate::prints::print_line;
 use crate::word_list::words_line;
 use cli_shell::status::Status;
 use std::alloc::{AllocError, Global};
@@ -16,8 +17,8 @@ pub struct Call<'c> {
     pub input: &'c [u8],
 }
 
-/// Why a call that ended with this status was refused, in a line. None where it wasn't refused for
-/// its arguments or its input.
+/// Why a call that ended with this status was refused, in a line; of a text that isn't a print, why
+/// it is none. None where it wasn't refused for its arguments or its input.
 pub fn refusal_line(
     alloc: Global,
     call: Call<'_>,
@@ -26,6 +27,7 @@ pub fn refusal_line(
     match status {
         Status::BadWords => Ok(Some(words_line(alloc, call.command, call.words)?)),
         Status::BadScript | Status::TooLarge => Ok(Some(input_line(alloc, call, status)?)),
+        Status::CheckNo => print_line(alloc, call.input),
         _ => Ok(None),
     }
 }

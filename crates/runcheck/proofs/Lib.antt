@@ -7,3 +7,4 @@ pub mod ToldPrints
 pub mod Ended
 pub mod LineByLine
 pub mod CheckSaying
+pub mod Flaws

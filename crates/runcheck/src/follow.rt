@@ -64,8 +64,8 @@ pub fn follow(
     }
 }
 
-// Takes a call, where it is asked for and its answer fits. Nothing is changed where it is not.
-fn take<'a>(
+/// Takes a call, where it is asked for and its answer fits. Nothing is changed where it is not.
+pub fn take<'a>(
     alloc: Global,
     walk: &mut Walk<'a>,
     standing: &mut Standing,

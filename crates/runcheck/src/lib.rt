@@ -6,10 +6,12 @@
 pub mod command;
 pub mod ending;
 pub mod failing;
+pub mod flaw;
 pub mod follow;
 pub mod judge;
 pub mod laws;
 pub mod reading;
 pub mod told;
 
+pub use flaw::{Cause, Flaw, flaw_of};
 pub use judge::{Verdict, check};

@@ -85,8 +85,8 @@ fn told_among(alloc: Global, first: &str, between: &[&str], last: &str) -> Resul
     Ok(Told { head, calls })
 }
 
-// Refuses a line that isn't JSON.
-fn check_json(alloc: Global, line: &str) -> Result<(), ReadError>
+/// Refuses a line that isn't JSON.
+pub fn check_json(alloc: Global, line: &str) -> Result<(), ReadError>
     ensures { Gives (λ _. true) result (option_map (λ d. true) (read line.now)) }
 {
     let mut arena = Arena::new(alloc);
@@ -126,9 +126,9 @@ fn line_call(alloc: Global, arena: &mut Arena, line: &str) -> Result<Call, ReadE
     read_call(alloc, &arena.read_text(line)?)
 }
 
-// What a run is begun with.
+/// What a run is begun with.
 #[tactic(auto, unfolding(crate::specs::Told::head_at))]
-fn read_head(alloc: Global, value: &Value) -> Result<RunHead, ReadError>
+pub fn read_head(alloc: Global, value: &Value) -> Result<RunHead, ReadError>
     ensures { Reads result (head_at (view value.now)) }
 {
     let (tag, input, stop, output_kind, error_kind, fuel) = read::sextuple(value)?;

@@ -50,8 +50,8 @@ fn asked_schema(words: &[Text]) -> Option<ScriptKind> {
     }
 }
 
-// Says on standard error why a call was refused, where its input was kept. Where it can't be said,
-// the status tells it.
+// Says on standard error why a call was refused, or why a text is no print, where its input was
+// kept. Where it can't be said, the status tells it.
 fn tell(rt: &HostRuntime, words: &[Text], input: Option<&[u8]>, status: Status) {
     let Some(input) = input else {
         return;

@@ -3,6 +3,7 @@ ghost use Rattle.std.specs.Prelude.{◌≡◌, ◌↔◌, true, false, cond, tak
 ghost use Rattle.std.specs.Prelude.{IfOk, OnOk, List, [], ◌∷◌, ◌++◌};
 ghost use Rattle.run_grammar.specs.Machine.{Spot};
 ghost use Rattle.run_grammar.specs.Tests.{holds};
+ghost use Rattle.run_grammar.specs.declared.kind.Kind.{Kind};
 ghost use Rattle.runcheck.specs.declared.reading.walk.Frame.{Frame};
 ghost use Rattle.runcheck.specs.Reading.Frames.{CutTo, Found, Reached, armed, around, is_at, is_further};
 ghost use Rattle.runcheck.specs.Reading.Frames.{is_over, or_over, outside, plug, spot_of, state_of};
@@ -426,6 +427,20 @@ impl<'a> Walk<'a> {
             left,
             stage: staged(reached),
         })
+    }
+
+    /// The kind of the question that is next. None where nothing is asked.
+    pub fn asked(&self) -> Option<Kind>
+        ensures some { IfSome result (λ kind. Asks (position_of self.now) kind) }
+        ensures none { IfNone result ((kind : Kind) → Asks (position_of self.now) kind → ⊥) }
+    {
+        match self.stage {
+            Stage::Whole | Stage::Dead => None,
+            Stage::Asking(asked) => Some(asked),
+            Stage::Waiting(_, None) => Some(Kind::Park),
+            Stage::Waiting(_, Some((role, _))) => Some(Kind::Wait(role)),
+            Stage::Cutting(cut, _) => Some(cut.given_up_by()),
+        }
     }
 
     /// Whether a question of this kind is next.
