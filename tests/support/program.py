@@ -7,6 +7,8 @@ from typing import NamedTuple
 
 TOP = pathlib.Path(__file__).resolve().parents[2]
 WRAPPER = TOP / "smithy_replay"
+# What the script runs where no program stands.
+FIRST_CALL = TOP / "tools/first_call"
 EXAMPLES = TOP / "examples"
 
 
