@@ -1,0 +1,14 @@
+pub mod Reading
+pub mod Forms
+pub mod Numbers
+pub mod Floats
+pub mod Lists
+pub mod Base64
+pub mod Placed
+pub mod Maps
+pub mod Objects
+pub mod Members
+pub mod Making
+pub mod Unions
+pub mod Times
+pub mod Payloads

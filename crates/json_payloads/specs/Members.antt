@@ -1,0 +1,10 @@
+-- Names, one after another.
+use Rattle.std.specs.Prelude.{ℕ, List, [], ◌∷◌}
+
+abbrev pub first_of : List (List ℕ) → List ℕ
+first_of [] = []
+first_of (n ∷ ns) = n
+
+abbrev pub rest_of : List (List ℕ) → List (List ℕ)
+rest_of [] = []
+rest_of (n ∷ ns) = ns
