@@ -1,0 +1,4 @@
+pub mod BodyLemmas
+pub mod DeterminedLemmas
+pub mod LettingLemmas
+pub mod NewsLemmas

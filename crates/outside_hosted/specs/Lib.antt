@@ -1,0 +1,11 @@
+pub mod Body
+pub mod Call
+pub mod Counting
+pub mod Determined
+pub mod Handing
+pub mod Load
+pub mod Makes
+pub mod Order
+pub mod Steps
+pub mod Telling
+pub mod Words
