@@ -1,0 +1,9 @@
+use Rattle.orchestrate.specs.Handing.{HandedOn}
+use Rattle.run_driver.specs.Driving.{Advances}
+use Rattle.run_driver.proofs.driving.drive_on.Given as goal
+
+-- the run has made so many calls, over which the world's relation is handed on
+abbrev pub invariant-loop-calls : goal.invariant-loop-calls
+invariant-loop-calls g l =
+    Advances l.fn.invocation l.invocation (g.W.World.calls l.fn.world) (g.W.World.calls l.world) l.calls
+    × HandedOn g.W.World.relates l.fn.world l.world (g.W.World.calls l.fn.world) (g.W.World.calls l.world)
