@@ -7,7 +7,8 @@ THIS = "../tools/first_call"
 
 
 class Alone(NamedTuple):
-    """The crate that a command stands in, and what serves it there."""
+    """The crate that a command stands in, and what serves it there: how it ended, and what its run
+    left over of its script."""
 
     crate: str
     serves: str
@@ -15,15 +16,16 @@ class Alone(NamedTuple):
 
 # The commands that have a program alone: it stands on some half of the crates of the whole one.
 ALONE = {
-    "replay": Alone("cli_replay", "&cli_replay::command::Replay"),
-    "check": Alone("runcheck", "&runcheck::command::Check"),
-    "wait": Alone("cli_wait", "&cli_wait::WaitCommand"),
-    "waiters": Alone("cli_waiters", "&cli_waiters::WaitersCommand"),
+    "replay": Alone("cli_replay", "cli_replay::command::serve_replay(alloc, source, sink)"),
+    "check": Alone("runcheck", "(serve(alloc, &runcheck::command::Check, source, sink), None)"),
+    "wait": Alone("cli_wait", "(serve(alloc, &cli_wait::WaitCommand, source, sink), None)"),
+    "waiters": Alone("cli_waiters", "(serve(alloc, &cli_waiters::WaitersCommand, source, sink), None)"),
 }
 # What `cli_commands` is there: `program` as it stands, and `run` as below.
-USED_BY_COMMANDS = ["smithy_types", "cli_shell"]
+USED_BY_COMMANDS = ["smithy_types", "cli_shell", "cli_replay"]
 LIB = "pub mod program;\npub mod run;\n"
 RUN = """//! The program of one command.
+use cli_replay::left_over::LeftOver;
 use cli_shell::serve::serve;
 use cli_shell::sink::Sink;
 use cli_shell::source::Source;
@@ -34,14 +36,15 @@ use std::sync::Wait;
 use std::thread::Threads;
 
 /// Serves the command.
-pub fn run<R: Threads + Wait + Sync, S: Source, K: Sink>(
+pub fn run_noted<R: Threads + Wait + Sync, S: Source, K: Sink>(
     _rt: &R,
     alloc: Global,
     _words: &[Text],
     source: &mut S,
     sink: &mut K,
-) -> Status {
-    serve(alloc, SERVES, source, sink).status()
+) -> (Status, Option<LeftOver>) {
+    let (ended, left_over) = SERVES;
+    (ended.status(), left_over)
 }
 """
 

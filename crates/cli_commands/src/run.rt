@@ -1,13 +1,15 @@
 //! The program over a source and a sink.
-ghost use Rattle.std.specs.Prelude.{◌≡◌, ◌≢◌, Some};
+ghost use Rattle.std.specs.Prelude.{◌≡◌, ◌≢◌, Some, IfSome};
 ghost use Rattle.cli_commands.specs.Run.{Did, Ran};
 ghost use Rattle.cli_commands.specs.Words.{command_of};
+ghost use Rattle.cli_replay.specs.LeftOver.{ReadLeft};
 
 use crate::help::{HELP, VERSION};
 use crate::words::{Command, command_in};
 use cli_client::{ClientCommand, MakeCommand, MomentsCommand};
 use cli_fleet::{Gate, OpenGate, answer_fleet};
-use cli_replay::command::Replay;
+use cli_replay::command::{Replay, serve_replay};
+use cli_replay::left_over::LeftOver;
 use cli_shell::fixed::Fixed;
 use cli_shell::serve::{give, serve, show};
 use cli_shell::sink::Sink;
@@ -69,6 +71,28 @@ fn serve_fleet<R: Threads + Wait + Sync, S: Source, K: Sink, G: Gate + Sync>(
     match read_all(alloc, source) {
         Ok(bytes) => give(answer_fleet(rt, alloc, bytes.as_slice(), gate), sink),
         Err(status) => Ended::Shell(status),
+    }
+}
+
+/// Does what the words say, as `run` does. Beside that it tells what a run of `replay` left over of
+/// its script, and None of every other command.
+pub fn run_noted<R: Threads + Wait + Sync, S: Source, K: Sink>(
+    rt: &R,
+    alloc: Global,
+    words: &[Text],
+    source: &mut S,
+    sink: &mut K,
+) -> (Status, Option<LeftOver>)
+    ensures ran { Ran S.view K.view (command_of words.now) result.0 source.old source.new sink.old
+        sink.new }
+    ensures left { IfSome result.1 (λ l. ReadLeft (S.view source.old) (S.view source.new) l) }
+{
+    match command_in(words) {
+        Some(Command::Replay) => {
+            let (ended, left_over) = serve_replay(alloc, source, sink);
+            (ended.status(), left_over)
+        }
+        _ => (run(rt, alloc, words, source, sink), None),
     }
 }
 

@@ -1,9 +1,12 @@
 //! Runs a command of the command line over standard input and standard output, and tells on
-//! standard error why one was refused.
+//! standard error why one was refused, and what a run left over of its script.
 #![tactic(auto)]
 
 use cli_commands::program::program;
-use cli_refusals::{Call, KeepingReader, print_schema, refusal_line, schema_kind};
+use cli_refusals::{
+    Call, KeepingReader, left_over_line, missed_line, print_schema, refusal_line, schema_kind,
+};
+use cli_replay::left_over::LeftOver;
 use cli_shell::status::Status;
 use script_forms::ScriptKind;
 use smithy_types::{List, Text};
@@ -26,6 +29,9 @@ fn main(rt: HostRuntime) -> ExitCode {
                     finished.source.reader.all(),
                     finished.status,
                 );
+                if let Some(left) = finished.left_over {
+                    tell_left_over(&rt, left);
+                }
                 finished.status
             }
         },
@@ -62,6 +68,17 @@ fn tell(rt: &HostRuntime, words: &[Text], input: Option<&[u8]>, status: Status) 
         input,
     };
     if let Ok(Some(line)) = refusal_line(rt.alloc(), call, status) {
+        let _said = eprintln!(rt; "smithy_replay: {line}");
+    }
+}
+
+// Says on standard error what a run left over of its script: which question missed the next answer,
+// and how many were left.
+fn tell_left_over(rt: &HostRuntime, left: LeftOver) {
+    if let Ok(Some(line)) = missed_line(rt.alloc(), left) {
+        let _said = eprintln!(rt; "smithy_replay: {line}");
+    }
+    if let Ok(line) = left_over_line(rt.alloc(), left) {
         let _said = eprintln!(rt; "smithy_replay: {line}");
     }
 }
