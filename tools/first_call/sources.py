@@ -1,28 +1,23 @@
 """Lays out the sources of a program of one command alone, as a repository of its own."""
 import pathlib
-from typing import Dict, List, NamedTuple, Set
+import re
+from typing import Dict, List, NamedTuple
 
 # A part of the program is written here, so a newer version of this makes a newer program.
 THIS = "../tools/first_call"
 
 
-class Alone(NamedTuple):
-    """The crate that a command stands in, and what serves it there: how it ended, and what its run
-    left over of its script."""
-
-    crate: str
-    serves: str
-
-
-# The commands that have a program alone: it stands on some half of the crates of the whole one.
+# The commands that have a program alone, and what serves each there: how it ended, and what its run
+# left over of its script. It stands on some half of the crates of the whole one.
 ALONE = {
-    "replay": Alone("cli_replay", "cli_replay::command::serve_replay(alloc, source, sink)"),
-    "check": Alone("runcheck", "(serve(alloc, &runcheck::command::Check, source, sink), None)"),
-    "wait": Alone("cli_wait", "(serve(alloc, &cli_wait::WaitCommand, source, sink), None)"),
-    "waiters": Alone("cli_waiters", "(serve(alloc, &cli_waiters::WaitersCommand, source, sink), None)"),
+    "replay": "cli_replay::command::serve_replay(alloc, source, sink)",
+    "check": "(serve(alloc, &runcheck::command::Check, source, sink), None)",
+    "wait": "(serve(alloc, &cli_wait::WaitCommand, source, sink), None)",
+    "waiters": "(serve(alloc, &cli_waiters::WaitersCommand, source, sink), None)",
 }
+# Modules that none of these commands calls: scripts of clients and of callers.
+LEFT_OUT = {"json_scripts": ["client", "fleet", "records", "workload"]}
 # What `cli_commands` is there: `program` as it stands, and `run` as below.
-USED_BY_COMMANDS = ["smithy_types", "cli_shell", "cli_replay"]
 LIB = "pub mod program;\npub mod run;\n"
 RUN = """//! The program of one command.
 use cli_replay::left_over::LeftOver;
@@ -66,51 +61,60 @@ def read_crates(text: str) -> Dict[str, Crate]:
     return {crate.name(): crate for crate in crates}
 
 
-def add_with_used(name: str, crates: Dict[str, Crate], added: Set[str]) -> None:
-    """Adds the name of a crate, and those of all below it."""
-    if name in crates and name not in added:
-        added.add(name)
-        for used in crates[name].uses:
-            add_with_used(used, crates, added)
+def files_of(src: pathlib.Path, left_out: List[str]) -> Dict[str, str]:
+    """The sources in a crate's folder `src` but for these modules, by their paths."""
+    files = {}
+    for path in src.rglob("*.rt"):
+        place = path.relative_to(src)
+        if place.parts[0].partition(".")[0] not in left_out:
+            files[str(place)] = path.read_text(encoding="utf-8")
+    for module in left_out:
+        files["lib.rt"] = files["lib.rt"].replace(f"pub mod {module};\n", "")
+    return files
 
 
-def crates_alone(text: str, crate: str) -> List[Crate]:
-    """The crates of a program of one command, which stands in this crate, in the order of
-    crates.txt."""
-    crates = read_crates(text)
-    commands = crates["cli_commands"]
-    crates["cli_commands"] = commands._replace(uses=[*USED_BY_COMMANDS, crate])
-    added: Set[str] = set()
-    add_with_used("smithy_replay", crates, added)
-    return [crate for name, crate in crates.items() if name in added]
+def commands_alone(src: pathlib.Path, serves: str) -> Dict[str, str]:
+    """The sources of `cli_commands` with one command alone: `program` as it stands, and `run` as
+    above."""
+    program = (src / "program.rt").read_text(encoding="utf-8")
+    return {"lib.rt": LIB, "program.rt": program, "run.rt": RUN.replace("SERVES", serves)}
 
 
-def files_of(crate: pathlib.Path) -> List[pathlib.Path]:
-    """The files that are copied of the crate in this folder."""
-    if crate.name == "cli_commands":
-        return [crate / "src/program.rt"]
-    return [path for path in (crate / "src").rglob("*") if path.is_file()]
+def sources_alone(top: pathlib.Path, name: str, command: str) -> Dict[str, str]:
+    """The sources of a crate in a program of this command alone, by their paths in `src`."""
+    src = top / "crates" / name / "src"
+    if name == "cli_commands":
+        return commands_alone(src, ALONE[command])
+    return files_of(src, LEFT_OUT.get(name, []))
 
 
-def copy_crate(top: pathlib.Path, name: str, to: pathlib.Path) -> None:
-    """Copies the sources of a crate from the repository at `top` into another."""
-    for path in files_of(top / "crates" / name):
-        copy = to / path.relative_to(top)
-        copy.parent.mkdir(parents=True, exist_ok=True)
-        copy.write_bytes(path.read_bytes())
+def named_in(files: Dict[str, str], uses: List[str]) -> List[str]:
+    """Those of these crates that the code of a crate names. Others stand in crates.txt since its
+    contracts name them, or what its code names has their types."""
+    text = "\n".join(files.values())
+    return [use for use in uses if re.search(rf"\b{use}::", text)]
+
+
+def write_sources(src: pathlib.Path, files: Dict[str, str]) -> None:
+    """Writes the sources of a crate into its folder `src`."""
+    for place, text in files.items():
+        path = src / place
+        path.parent.mkdir(parents=True, exist_ok=True)
+        path.write_text(text, encoding="utf-8")
 
 
 def lay_out(top: pathlib.Path, command: str, to: pathlib.Path) -> List[str]:
     """Makes a repository of a program of this command alone in the empty folder `to`, from the
     sources in that at `top`. Returns the folders that it is made of, from the folder of the crates
     on. `to` lies outside of `top`, where `rt` refuses sources that no crate has."""
-    alone = ALONE[command]
-    crates = crates_alone((top / "crates.txt").read_text(encoding="utf-8"), alone.crate)
-    for crate in crates:
-        copy_crate(top, crate.name(), to)
-    commands = to / "crates/cli_commands/src"
-    (commands / "lib.rt").write_text(LIB)
-    (commands / "run.rt").write_text(RUN.replace("SERVES", alone.serves))
-    lines = [f"{crate.head}: {' '.join(crate.uses)}\n" for crate in crates]
-    (to / "crates.txt").write_text("".join(lines))
-    return [*(f"{crate.name()}/src" for crate in crates), THIS]
+    crates = read_crates((top / "crates.txt").read_text(encoding="utf-8"))
+    lines, wanted = [], ["smithy_replay"]
+    for name, crate in reversed(crates.items()):
+        if name in wanted:
+            files = sources_alone(top, name, command)
+            uses = named_in(files, crate.uses)
+            write_sources(to / "crates" / name / "src", files)
+            lines.insert(0, f"{crate.head}: {' '.join(uses)}\n")
+            wanted += uses
+    (to / "crates.txt").write_text("".join(lines), encoding="utf-8")
+    return [*(f"{name}/src" for name in crates if name in wanted), THIS]
