@@ -8,3 +8,4 @@ pub mod made;
 pub mod paid;
 pub mod runs;
 pub mod scripts;
+pub mod waits;

@@ -1,0 +1,5 @@
+pub mod Asked
+pub mod Calls
+pub mod Turned
+pub mod Walked
+pub mod Told
