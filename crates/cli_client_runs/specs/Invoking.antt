@@ -1,5 +1,5 @@
 -- One invocation of a client's operation.
-use Rattle.std.specs.Prelude.{◌≡◌, ℕ, List, [], None, Some}
+use Rattle.std.specs.Prelude.{◌≡◌, ◌⊎◌, ℕ, List, [], None, Some}
 use Rattle.json_scripts.specs.declared.client.terms.InvocationRecord.{InvocationRecord}
 use Rattle.client_components.specs.Resting.{Exchanges}
 use Rattle.rate_limit.specs.Pace.{Pace}
@@ -35,6 +35,25 @@ begun responses identities outside = record outside {
   call = Idle;
   load = None;
 }
+
+-- Outside and quota went into the client and came back, whatever the run left of the client's parts between. What is open is
+-- ended at both exchanges, and the client has its own outside and quota again.
+pub record Returned {C I : Type 0} (old : ScriptedClient C I) (outside : ScriptedOutside) (quota : Registers Pace) (i : InvocationRecord)
+    (new : ScriptedClient C I) (outside_after : ScriptedOutside) (quota_after : Registers Pace) : Type 0 where
+  pub entered : ServiceWorld C I
+  pub stopped : ServiceWorld C I
+  pub own_outside : ScriptedOutside
+  pub own_quota : Registers Pace
+  pub enters : Exchanges Makes old.world.parts (begun i.responses old.identities outside) quota entered.parts own_outside own_quota
+  pub leaves : Exchanges Makes stopped.parts own_outside own_quota new.world.parts outside_after quota_after
+  pub others : new ≡ record old { world = new.world }
+
+-- What is left without memory. Before the run client and quota are as they were, and the outside is so too or has been handed
+-- the invocation; behind it outside and quota came back.
+abbrev pub Stops : {C I : Type 0} → ScriptedClient C I → ScriptedOutside → Registers Pace → InvocationRecord → ScriptedClient C I → ScriptedOutside → Registers Pace → Type 0
+Stops old outside quota i new outside_after quota_after =
+    ((new ≡ old) × (quota_after ≡ quota) × ((outside_after ≡ outside) ⊎ (outside_after ≡ begun i.responses old.identities outside)))
+    ⊎ Returned old outside quota i new outside_after quota_after
 
 module _ {C I : Type 0} (relates : ServiceWorld C I → List Entry → ServiceWorld C I → Type 0) where
   -- Outside and quota go into the client, the operation is run over it to this ending, each entry is answered from the

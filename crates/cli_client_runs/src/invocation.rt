@@ -1,7 +1,7 @@
 //! One invocation of a client's operation.
-ghost use Rattle.std.specs.Prelude.{◌≡◌, [], IfOk};
+ghost use Rattle.std.specs.Prelude.{◌≡◌, [], IfOk, OnErr};
 ghost use Rattle.cli_client_runs.specs.Means.{ServedBy};
-ghost use Rattle.cli_client_runs.specs.Invoking.{Invoked, InvokedNoting, head_of};
+ghost use Rattle.cli_client_runs.specs.Invoking.{Invoked, InvokedNoting, Stops, head_of};
 
 use crate::noting::{NotedRun, run_noting};
 use client_retries::TakeOffer;
@@ -21,7 +21,8 @@ use std::mem;
 const LOG_ROOM: usize = 96;
 
 /// Runs the client's operation over this outside and this quota, which come back as the run leaves
-/// them, also where the run finds no memory. Answers the run's entries and how it ended.
+/// them. Answers the run's entries and how it ended. Where the run finds no memory they come back
+/// too, and the client has its own again.
 pub fn invoke<C: ClassifyRetry, I: TakeOffer>(
     alloc: Global,
     client: &mut ScriptedClient<C, I>,
@@ -29,7 +30,7 @@ pub fn invoke<C: ClassifyRetry, I: TakeOffer>(
     quota: &mut ClientQuota,
     invocation: InvocationRecord,
 ) -> Result<(List<Entry>, Ending), OutOfMemory>
-    ensures { IfOk result (λ ran. Invoked
+    ensures made { IfOk result (λ ran. Invoked
         (ServedBy C.says (record {
           names = I.names;
           hooks = I.hooks;
@@ -38,6 +39,8 @@ pub fn invoke<C: ClassifyRetry, I: TakeOffer>(
           with_verdict = I.with_verdict;
         })) client.old outside.old
         quota.old invocation ran.0 ran.1 client.new outside.new quota.new) }
+    ensures lost { OnErr result (Stops client.old outside.old quota.old invocation client.new
+        outside.new quota.new) }
 {
     let InvocationRecord {
         input,

@@ -12,4 +12,4 @@ returns g c =
       there = slice_get-get_or c.args.self.now.clients.items c.args.invocation.client c.index_mut-client.result.now c.requires ∙ ap Some (sym c.index_mut-client.ensures.value);
       invoked = h;
       clients = refl;
-    }) c.invoke.ensures
+    }) c.invoke.ensures.made
