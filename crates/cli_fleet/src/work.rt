@@ -12,6 +12,7 @@ use crate::caller_outside::CallerOutside;
 use crate::gate::Gate;
 use crate::invocation::{CallerTarget, CallerWorld, run_all};
 use cli_shell::status::PrintStatus;
+use client_builder::BuildRefusal;
 use client_retries::TakeOffer;
 use client_scripted::client::{operation_of, prepare};
 use json_print::world::PayloadOperation;
@@ -212,6 +213,16 @@ pub fn do_work<'w, B: At, G: Gate, R: Wait>(
     let quota = CellQuota::<B, ClientRateLimiter, R>::new(rt, bucket, pass, limiter);
     match builder.build(alloc, outside, quota) {
         Ok((_, world)) => make_all(alloc, operation, identities, world, invocations),
-        Err((_, _, quota, _)) => (Err(OutOfMemory), quota.into_pass()),
+        Err((_, _, quota, refusal)) => (Err(want_of(refusal)), quota.into_pass()),
+    }
+}
+
+// A build that lacks nothing is refused for want of memory alone.
+fn want_of(refusal: BuildRefusal) -> OutOfMemory
+    requires { refusal ≡ BuildRefusal.OutOfMemory }
+{
+    match refusal {
+        BuildRefusal::OutOfMemory => OutOfMemory,
+        BuildRefusal::Refused(_) => unreachable!(),
     }
 }

@@ -2,6 +2,7 @@ use Rattle.std.proofs.Common.{◌∙◌, ap, refl, subst, sym}
 use Rattle.std.proofs.lemmas.Result.{IfOk-weaker}
 use Rattle.retry_quota_cell.specs.Callers.{own}
 use Rattle.retry_quota_cell.specs.Known.{IsOf}
+use Rattle.client_scripted.proofs.Whole.{only_memory, whole_builder}
 use Rattle.client_scripted.specs.Clients.{builder_of}
 use Rattle.cli_fleet.proofs.Closing.{closed_work, works_so}
 use Rattle.cli_fleet.specs.Working.{Worked}
@@ -21,3 +22,10 @@ returns-in-Ok-build-clause-told g c =
     (c.in-Ok-prepare.ensures.builder ∙ ap (λ p. builder_of p c.args.work.client) c.in-Ok.ensures)
     c.new-outside.ensures (λ i. record { pass = c.new-quota.ensures.pass i; limiter = (c.new-quota.ensures.limiter ∙ c.zero-limiter.ensures) i })
     c.in-Ok-prepare.ensures.identities h))) c.make_all.ensures.told
+
+-- no part is lacking
+pub want_of-requires : goal.want_of-requires
+want_of-requires g c =
+    only_memory c.in-Ok-prepare.prepared.0 c.in-Err-build.refusal
+    (whole_builder c.in-Ok-prepare.prepared.0 _ c.args.work.client c.in-Ok-prepare.ensures.builder)
+    c.in-Err-build.ensures.refused
