@@ -1,9 +1,11 @@
 -- The choice of an auth scheme, over lists of ids.
-use Rattle.std.specs.Prelude.{◌≡◌, ℕ, ◌++◌, ◌∷◌, [], nat_lt, Bool, false, not, ◌&&◌, if◌then◌else◌, List, length, take, All, IsSome, Option, None, Some, codes, bytes_eq}
+use Rattle.std.specs.Prelude.{◌≡◌, ℕ, ◌++◌, ◌∷◌, [], nat_lt, Bool, false, not, ◌&&◌, if◌then◌else◌, List, length, take}
+use Rattle.std.specs.Prelude.{All, IsSome, Option, None, Some, codes, bytes_eq}
 use Rattle.std.specs.List.{list_any, filter, AllZip}
 use Rattle.smithy_types.specs.declared.identity.Endpoint.{Endpoint}
 use Rattle.auth_endpoint.specs.declared.explored.ExploreResult.{ExploreResult}
-use Rattle.auth_endpoint.specs.declared.explored.ExploreResult.TheVariants.{NoAuthScheme, NoIdentityResolver, MissingEndpointConfig}
+use Rattle.auth_endpoint.specs.declared.explored.ExploreResult.TheVariants.{NoAuthScheme, NoIdentityResolver}
+use Rattle.auth_endpoint.specs.declared.explored.ExploreResult.TheVariants.{MissingEndpointConfig}
 use Rattle.auth_endpoint.specs.declared.explored.ExploredAuthOption.{ExploredAuthOption}
 use Rattle.auth_endpoint.specs.declared.explored.ExploredList.{ExploredList}
 
@@ -48,7 +50,8 @@ pub record KeepsFirst (all : List ExploredAuthOption) (explored : ExploredList) 
   pub more : explored.truncated ≡ nat_lt 7 (length all)
 
 -- each option lacks something, and the list keeps the first seven with the first thing that each lacks
-pub record NoneChosen (lack : List ℕ → Option ExploreResult) (options : List (List ℕ)) (explored : ExploredList) : Type 0 where
+pub record NoneChosen (lack : List ℕ → Option ExploreResult) (options : List (List ℕ))
+    (explored : ExploredList) : Type 0 where
   pub all : List ExploredAuthOption
   pub each : AllZip (λ o refused. (refused.scheme_id ≡ o) × (lack o ≡ Some refused.result)) options all
   pub kept : KeepsFirst all explored
@@ -56,7 +59,8 @@ pub record NoneChosen (lack : List ℕ → Option ExploreResult) (options : List
 -- the options that the preference names, by their last place in it
 abbrev pub preferred : List (List ℕ) → List (List ℕ) → List (List ℕ)
 preferred [] options = []
-preferred (name ∷ names) options = (if is_named names name then [] else filter (is_id name) options) ++ preferred names options
+preferred (name ∷ names) options =
+    (if is_named names name then [] else filter (is_id name) options) ++ preferred names options
 
 -- those come first, and the others keep their order
 abbrev pub reprioritized : Option (List (List ℕ)) → List (List ℕ) → List (List ℕ)

@@ -1,5 +1,6 @@
 -- An endpoint over the cut of URIs that `http_uri` states, and the headers that it sets.
-use Rattle.std.specs.Prelude.{◌≡◌, ℕ, ◌-◌, ◌++◌, ◌∷◌, [], ◌⊎◌, ⊤, if◌then◌else◌, List, length, ◌==◌, take, drop, fold, Option, None, Some, unwrap_or, codes, bytes_eq}
+use Rattle.std.specs.Prelude.{◌≡◌, ℕ, ◌-◌, ◌++◌, ◌∷◌, [], ◌⊎◌, ⊤, if◌then◌else◌, List, length, ◌==◌, take, drop, fold}
+use Rattle.std.specs.Prelude.{Option, None, Some, unwrap_or, codes, bytes_eq}
 use Rattle.http_uri.specs.declared.uri.Uri.{Uri as Target}
 use Rattle.http_uri.specs.Uri.{uri_scheme, uri_authority, uri_path, uri_query, uri_text, Spells, SpellsNone}
 use Rattle.http_uri.specs.Grammar.{IsAuthority}
@@ -12,7 +13,8 @@ use Rattle.smithy_types.specs.declared.identity.Endpoint.{Endpoint}
 use Rattle.smithy_types.specs.declared.identity.EndpointHeader.{EndpointHeader}
 use Rattle.smithy_types.specs.declared.http.HttpRequest.{HttpRequest}
 use Rattle.auth_endpoint.specs.declared.endpoint_error.EndpointError.{EndpointError}
-use Rattle.auth_endpoint.specs.declared.endpoint_error.EndpointError.TheVariants.{BadUrl, BadAuthority, NoScheme, BadUri, BadHeader, OutOfMemory}
+use Rattle.auth_endpoint.specs.declared.endpoint_error.EndpointError.TheVariants.{BadUrl, BadAuthority, NoScheme}
+use Rattle.auth_endpoint.specs.declared.endpoint_error.EndpointError.TheVariants.{BadUri, BadHeader, OutOfMemory}
 
 -- what a refusal prints
 abbrev pub refusal_text : EndpointError → List ℕ
@@ -40,7 +42,8 @@ joined_authority prefix endpoint = unwrap_or prefix [] ++ unwrap_or (uri_authori
 
 -- the text without its last byte, where that is a slash
 abbrev pub without_last_slash : List ℕ → List ℕ
-without_last_slash text = if bytes_eq (drop (length text - 1) text) (codes "/") then take (length text - 1) text else text
+without_last_slash text =
+    if bytes_eq (drop (length text - 1) text) (codes "/") then take (length text - 1) text else text
 
 -- the text without its first byte, where that is a slash
 abbrev pub without_first_slash : List ℕ → List ℕ
@@ -48,7 +51,8 @@ without_first_slash text = if bytes_eq (take 1 text) (codes "/") then drop 1 tex
 
 -- the path, behind the endpoint's where that isn't empty
 abbrev pub merged_path : List ℕ → List ℕ → List ℕ
-merged_path path front = if length front == 0 then path else without_last_slash front ++ codes "/" ++ without_first_slash path
+merged_path path front =
+    if length front == 0 then path else without_last_slash front ++ codes "/" ++ without_first_slash path
 
 -- the query behind its mark, if there is one
 abbrev pub query_text : Option (List ℕ) → List ℕ
@@ -57,7 +61,8 @@ query_text (Some query) = codes "?" ++ query
 
 -- the scheme, the joined authority, the merged path and the request's query; the endpoint's query is ignored
 abbrev pub whole_text : List ℕ → List ℕ → Target → Target → List ℕ
-whole_text scheme joined uri endpoint = scheme ++ codes "://" ++ joined ++ merged_path (uri_path uri) (uri_path endpoint) ++ query_text (uri_query uri)
+whole_text scheme joined uri endpoint =
+    scheme ++ codes "://" ++ joined ++ merged_path (uri_path uri) (uri_path endpoint) ++ query_text (uri_query uri)
 
 -- the endpoint has this scheme and the joined authority is one
 pub record HasFront (endpoint : Target) (prefix : Option (List ℕ)) (scheme : List ℕ) : Type 0 where
@@ -67,7 +72,8 @@ pub record HasFront (endpoint : Target) (prefix : Option (List ℕ)) (scheme : L
 -- the URI is what the whole text spells
 abbrev pub IsApplied : Target → Target → Option (List ℕ) → Target → Type 0
 IsApplied uri endpoint prefix applied =
-    (scheme : List ℕ) × HasFront endpoint prefix scheme × Spells (whole_text scheme (joined_authority prefix endpoint) uri endpoint) applied
+    (scheme : List ℕ) × HasFront endpoint prefix scheme
+    × Spells (whole_text scheme (joined_authority prefix endpoint) uri endpoint) applied
 
 -- the causes of a refused URI, in their order
 abbrev pub CantApply : Target → Target → Option (List ℕ) → EndpointError → Type 0
@@ -75,7 +81,8 @@ CantApply uri endpoint prefix =
     HasCause ⊥
     (¬ (IsAuthority (joined_authority prefix endpoint)))
     (IsAuthority (joined_authority prefix endpoint) × (uri_scheme endpoint ≡ None))
-    ((scheme : List ℕ) × HasFront endpoint prefix scheme × SpellsNone (whole_text scheme (joined_authority prefix endpoint) uri endpoint))
+    ((scheme : List ℕ) × HasFront endpoint prefix scheme
+    × SpellsNone (whole_text scheme (joined_authority prefix endpoint) uri endpoint))
     ⊥
 
 -- ---- the headers
@@ -101,7 +108,8 @@ with_header map header = fold (with_value (lowercase header.name)) (remove map (
 abbrev pub RefusesHeader : HeaderList → EndpointHeader → Type 0
 RefusesHeader map header =
     ¬ (IsFieldName header.name)
-    ⊎ RefusesSome (with_value (lowercase header.name)) (RefusesValue (lowercase header.name)) (remove map (lowercase header.name)) header.values
+    ⊎ RefusesSome (with_value (lowercase header.name)) (RefusesValue (lowercase header.name))
+    (remove map (lowercase header.name)) header.values
 
 -- each header set after the other
 abbrev pub with_headers : HeaderList → List EndpointHeader → HeaderList
@@ -137,7 +145,8 @@ CantRead target front prefix =
     ⊥
 
 -- the request goes to the applied URI, with the endpoint's headers; the rest of it stays
-pub record IsSent (old : HttpRequest) (endpoint : Endpoint) (prefix : Option (List ℕ)) (new : HttpRequest) : Type 0 where
+pub record IsSent (old : HttpRequest) (endpoint : Endpoint) (prefix : Option (List ℕ))
+    (new : HttpRequest) : Type 0 where
   pub target : List ℕ
   pub applied : Reading old.uri endpoint.url (λ uri url. IsAppliedText uri url prefix target)
   pub request : new ≡ record old { uri = target; headers = with_headers old.headers endpoint.headers }

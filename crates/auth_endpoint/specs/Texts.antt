@@ -1,8 +1,10 @@
 -- What is said where no auth option was chosen.
-use Rattle.std.specs.Prelude.{ℕ, ◌++◌, [], Bool, true, false, not, ◌&&◌, if◌then◌else◌, List, length, ◌==◌, flat_map, codes, bytes_eq}
+use Rattle.std.specs.Prelude.{ℕ, ◌++◌, [], Bool, true, false, not, ◌&&◌, if◌then◌else◌, List, length, ◌==◌, flat_map}
+use Rattle.std.specs.Prelude.{codes, bytes_eq}
 use Rattle.std.specs.List.{list_any, list_all}
 use Rattle.auth_endpoint.specs.declared.explored.ExploreResult.{ExploreResult}
-use Rattle.auth_endpoint.specs.declared.explored.ExploreResult.TheVariants.{NoAuthScheme, NoIdentityResolver, MissingEndpointConfig}
+use Rattle.auth_endpoint.specs.declared.explored.ExploreResult.TheVariants.{NoAuthScheme, NoIdentityResolver}
+use Rattle.auth_endpoint.specs.declared.explored.ExploreResult.TheVariants.{MissingEndpointConfig}
 use Rattle.auth_endpoint.specs.declared.explored.ExploredAuthOption.{ExploredAuthOption}
 use Rattle.auth_endpoint.specs.declared.explored.ExploredList.{ExploredList}
 use Rattle.auth_endpoint.specs.declared.explored.NoMatchingAuthSchemeError.{NoMatchingAuthSchemeError}
@@ -44,9 +46,11 @@ reason_text MissingEndpointConfig = codes "there is auth config in the endpoint 
 
 -- an option with its reason
 unfoldable pub option_text : ExploredAuthOption → List ℕ
-option_text option = codes " \"" ++ (option.scheme_id ++ (codes "\" wasn't a valid option because " ++ reason_text option.result))
+option_text option =
+    codes " \"" ++ (option.scheme_id ++ (codes "\" wasn't a valid option because " ++ reason_text option.result))
 
--- what to do: to set an identity, where some option lacks a resolver; else, where some option lacks another thing, nothing
+-- what to do: to set an identity, where some option lacks a resolver;
+-- else, where some option lacks another thing, nothing
 unfoldable pub advice_text : List ExploredAuthOption → List ℕ
 advice_text options =
     if list_any lacks_resolver options then codes " Be sure to set an identity, such as credentials, auth token, or other identity type that is required for this service."
@@ -61,7 +65,8 @@ opt_out_text options =
 
 -- that more were refused
 unfoldable pub truncated_text : Bool → List ℕ
-truncated_text truncated = if truncated then codes " Note: there were other auth schemes that were evaluated that weren't listed here." else []
+truncated_text truncated =
+    if truncated then codes " Note: there were other auth schemes that were evaluated that weren't listed here." else []
 
 -- how the text begins where some option has a scheme
 unfoldable pub opening_text : List ℕ
@@ -69,7 +74,10 @@ opening_text = codes "failed to select an auth scheme to sign the request with."
 
 -- the text where some option has a scheme
 unfoldable pub parts_text : ExploredList → List ℕ
-parts_text explored = opening_text ++ (flat_map option_text explored.items ++ (advice_text explored.items ++ (opt_out_text explored.items ++ truncated_text explored.truncated)))
+parts_text explored =
+    opening_text
+    ++ (flat_map option_text explored.items
+    ++ (advice_text explored.items ++ (opt_out_text explored.items ++ truncated_text explored.truncated)))
 
 -- the text where there was no option
 unfoldable pub no_options_text : List ℕ

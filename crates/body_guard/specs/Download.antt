@@ -26,7 +26,8 @@ passed inner (Err e) = Err e
 
 module _ {B : Type 0} where
   -- nothing came yet, and no violation
-  pub record Starts (body : B) (options : MinimumThroughputBodyOptions) (made : MinimumThroughputDownloadBody B) (calls : List TimersCall) : Type 0 where
+  pub record Starts (body : B) (options : MinimumThroughputBodyOptions) (made : MinimumThroughputDownloadBody B)
+      (calls : List TimersCall) : Type 0 where
     pub now : ℕ
     pub start : made.logs.start ≡ now
     pub resolution : made.logs.resolution ≡ options.check_window / 10
@@ -37,32 +38,41 @@ module _ {B : Type 0} where
     pub calls_are : calls ≡ Now now ∷ []
 
   -- an answer that doesn't end the body: its event and a look at this moment, and what the look makes of it
-  pub record LooksAt (sleeps : Bool) (old : MinimumThroughputDownloadBody B) (inner : Polled) (answer : Result Polled OutOfMemory) (new : MinimumThroughputDownloadBody B) (calls : List TimersCall) : Type 0 where
+  pub record LooksAt (sleeps : Bool) (old : MinimumThroughputDownloadBody B) (inner : Polled)
+      (answer : Result Polled OutOfMemory) (new : MinimumThroughputDownloadBody B)
+      (calls : List TimersCall) : Type 0 where
     pub now : ℕ
     pub report : ThroughputReport
     pub sees : Sees old.logs inner now report new.logs
     pub said : Result GraceAnswer OutOfMemory
     pub granting : List TimersCall
-    pub grants : Grants sleeps (violation old.grace.options.minimum_throughput (download_rate report)) old.grace said new.grace granting
+    pub grants : Grants sleeps (violation old.grace.options.minimum_throughput (download_rate report)) old.grace said
+        new.grace granting
     pub answered : answer ≡ passed inner said
     pub body : new.body ≡ old.body
     pub calls_are : calls ≡ Now now ∷ granting
 
   -- by whether the answer ends the body: the end and failures pass at once
-  abbrev pub JudgesBy : Bool → Bool → MinimumThroughputDownloadBody B → Polled → Result Polled OutOfMemory → MinimumThroughputDownloadBody B → List TimersCall → Type 0
+  abbrev pub JudgesBy : Bool → Bool → MinimumThroughputDownloadBody B → Polled → Result Polled OutOfMemory →
+      MinimumThroughputDownloadBody B → List TimersCall → Type 0
   JudgesBy true sleeps old inner answer new calls = (answer ≡ Ok inner) × (new ≡ old) × (calls ≡ [])
   JudgesBy false sleeps old inner answer new calls = LooksAt sleeps old inner answer new calls
 
   -- what becomes of an answer of the inner body, where there are sleeps or none, and which calls of the timers are made
-  abbrev pub Judges : Bool → MinimumThroughputDownloadBody B → Polled → Result Polled OutOfMemory → MinimumThroughputDownloadBody B → List TimersCall → Type 0
+  abbrev pub Judges : Bool → MinimumThroughputDownloadBody B → Polled → Result Polled OutOfMemory →
+      MinimumThroughputDownloadBody B → List TimersCall → Type 0
   Judges sleeps old inner answer new calls = JudgesBy (ends inner) sleeps old inner answer new calls
 
-  abbrev pub FollowsGuarded : Bool → Result Polled OutOfMemory → MinimumThroughputDownloadBody B → Result Polled OutOfMemory → MinimumThroughputDownloadBody B → List TimersCall → Type 0
+  -- what follows from the inner body's answer, or from its want of memory
+  abbrev pub FollowsGuarded : Bool → Result Polled OutOfMemory → MinimumThroughputDownloadBody B →
+      Result Polled OutOfMemory → MinimumThroughputDownloadBody B → List TimersCall → Type 0
   FollowsGuarded sleeps (Ok inner) old answer new calls = Judges sleeps old inner answer new calls
   FollowsGuarded sleeps (Err e) old answer new calls = (answer ≡ Err e) × (new ≡ old) × (calls ≡ [])
 
   -- one poll: the inner body is polled, and its answer judged
-  pub record PollsGuarded (polls : B → Result Polled OutOfMemory → B → Type 0) (sleeps : Bool) (old : MinimumThroughputDownloadBody B) (answer : Result Polled OutOfMemory) (new : MinimumThroughputDownloadBody B) (calls : List TimersCall) : Type 0 where
+  pub record PollsGuarded (polls : B → Result Polled OutOfMemory → B → Type 0) (sleeps : Bool)
+      (old : MinimumThroughputDownloadBody B) (answer : Result Polled OutOfMemory)
+      (new : MinimumThroughputDownloadBody B) (calls : List TimersCall) : Type 0 where
     pub inner : Result Polled OutOfMemory
     pub body : B
     pub polled : polls old.body inner body

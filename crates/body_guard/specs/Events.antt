@@ -16,4 +16,5 @@ with_event before now _ = before
 pub record Sees (old : Log) (answer : Polled) (now : ℕ) (report : ThroughputReport) (new : Log) : Type 0 where
   pub settings : SameSettings old new
   pub kept : (before : List Came) → Keeps old before → Keeps new (with_event before now answer ++ Looked now ∷ [])
-  pub reported : (before : List Came) → Keeps old before → report ≡ report_of old.start old.resolution old.complete (with_event before now answer) now
+  pub reported : (before : List Came) → Keeps old before →
+      report ≡ report_of old.start old.resolution old.complete (with_event before now answer) now

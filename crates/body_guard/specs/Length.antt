@@ -31,19 +31,23 @@ module _ {B : Type 0} where
     pub bytes : body.bytes_received ≡ min count (2 ^ 128 - 1)
 
   -- what an answer of the inner body becomes; for want of memory nothing is answered, and all else is so
-  pub record Enforces (old : ContentLengthEnforcingBody B) (inner : Polled) (answer : Result Polled OutOfMemory) (new : ContentLengthEnforcingBody B) : Type 0 where
+  pub record Enforces (old : ContentLengthEnforcingBody B) (inner : Polled) (answer : Result Polled OutOfMemory)
+      (new : ContentLengthEnforcingBody B) : Type 0 where
     pub body : new.body ≡ old.body
     pub declared : new.expected_length ≡ old.expected_length
     pub received : (count : ℕ) → HasReceived old count → HasReceived new (count + data_len inner)
-    pub answered : (count : ℕ) → HasReceived old count → IfOk answer (λ a. a ≡ at_length old.expected_length count inner)
+    pub answered : (count : ℕ) → HasReceived old count →
+        IfOk answer (λ a. a ≡ at_length old.expected_length count inner)
 
   -- what follows from the inner body's answer
-  abbrev pub FollowsEnforced : Result Polled OutOfMemory → ContentLengthEnforcingBody B → Result Polled OutOfMemory → ContentLengthEnforcingBody B → Type 0
+  abbrev pub FollowsEnforced : Result Polled OutOfMemory → ContentLengthEnforcingBody B → Result Polled OutOfMemory →
+      ContentLengthEnforcingBody B → Type 0
   FollowsEnforced (Ok inner) old answer new = Enforces old inner answer new
   FollowsEnforced (Err e) old answer new = (answer ≡ Err e) × (new ≡ old)
 
   -- one poll: the inner body is polled, and its answer judged
-  pub record PollsEnforced (polls : B → Result Polled OutOfMemory → B → Type 0) (old : ContentLengthEnforcingBody B) (answer : Result Polled OutOfMemory) (new : ContentLengthEnforcingBody B) : Type 0 where
+  pub record PollsEnforced (polls : B → Result Polled OutOfMemory → B → Type 0) (old : ContentLengthEnforcingBody B)
+      (answer : Result Polled OutOfMemory) (new : ContentLengthEnforcingBody B) : Type 0 where
     pub inner : Result Polled OutOfMemory
     pub body : B
     pub polled : polls old.body inner body

@@ -19,7 +19,8 @@ upload_rate _ = None
 
 -- fractions compare by cross multiplication
 abbrev pub is_below : Throughput → Throughput → Bool
-is_below rate minimum = nat_lt (fraction_bytes rate * fraction_nanos minimum) (fraction_bytes minimum * fraction_nanos rate)
+is_below rate minimum =
+    nat_lt (fraction_bytes rate * fraction_nanos minimum) (fraction_bytes minimum * fraction_nanos rate)
 
 -- the rate, where it is below the minimum
 abbrev pub violation : Throughput → Option Throughput → Option Throughput

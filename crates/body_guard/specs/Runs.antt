@@ -9,5 +9,7 @@ pub record JudgedStep : Type 0 where
   pub inner : Polled
   pub answer : Polled
 
-abbrev pub EnforcesStep : {B : Type 0} → ContentLengthEnforcingBody B → JudgedStep → ContentLengthEnforcingBody B → Type 0
+-- one answer of the inner body goes through the guard
+abbrev pub EnforcesStep : {B : Type 0} → ContentLengthEnforcingBody B → JudgedStep → ContentLengthEnforcingBody B →
+    Type 0
 EnforcesStep old step new = Enforces old step.inner (Ok step.answer) new

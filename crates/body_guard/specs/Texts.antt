@@ -16,8 +16,12 @@ no_sleep = response_fault (codes "absent")
 
 -- how fast the stream has to be, and how fast it was
 abbrev pub below_text : Throughput → Throughput → List ℕ
-below_text expected actual = codes "minimum throughput was specified at " ++ rate_text expected ++ codes ", but throughput of " ++ rate_text actual ++ codes " was observed"
+below_text expected actual =
+    codes "minimum throughput was specified at " ++ rate_text expected ++ codes ", but throughput of "
+    ++ rate_text actual ++ codes " was observed"
 
 -- how many bytes there had to be, and how many there were
 abbrev pub length_text : ℕ → ℕ → List ℕ
-length_text expected received = codes "Invalid Content-Length: Expected " ++ decimal expected ++ codes " bytes but " ++ decimal received ++ codes " bytes were received"
+length_text expected received =
+    codes "Invalid Content-Length: Expected " ++ decimal expected ++ codes " bytes but " ++ decimal received
+    ++ codes " bytes were received"

@@ -1,5 +1,6 @@
 -- A key in the query of a request's target, over the cut of URIs that `http_uri` states.
-use Rattle.std.specs.Prelude.{◌≡◌, ◌⊎◌, ℕ, not, ◌==◌, List, [], ◌∷◌, ◌++◌, length, filter, if◌then◌else◌, bytes_eq, codes, Option, None, Some, unwrap_or}
+use Rattle.std.specs.Prelude.{◌≡◌, ◌⊎◌, ℕ, not, ◌==◌, List, [], ◌∷◌, ◌++◌, length, filter, if◌then◌else◌, bytes_eq}
+use Rattle.std.specs.Prelude.{codes, Option, None, Some, unwrap_or}
 use Rattle.std.specs.List.{slice_split, before_first, join_with_byte}
 use Rattle.http_uri.specs.declared.uri.Uri.{Uri as Target}
 use Rattle.http_uri.specs.Uri.{uri_scheme, uri_authority, uri_path, uri_query, Spells, SpellsNone}
@@ -34,7 +35,8 @@ scheme_text (Some scheme) = scheme ++ codes "://"
 -- the URI with this key in its query: the scheme, the authority and the path stay, a fragment goes
 abbrev pub signed_text : List ℕ → List ℕ → Target → List ℕ
 signed_text name key uri =
-    scheme_text (uri_scheme uri) ++ unwrap_or (uri_authority uri) [] ++ uri_path uri ++ codes "?" ++ query_with (uri_query uri) (encoded name) (encoded key)
+    scheme_text (uri_scheme uri) ++ unwrap_or (uri_authority uri) [] ++ uri_path uri ++ codes "?"
+    ++ query_with (uri_query uri) (encoded name) (encoded key)
 
 -- the URI has this query, and the scheme, the authority and the path of the old one
 pub record HasOtherQuery (old new : Target) (query : List ℕ) : Type 0 where

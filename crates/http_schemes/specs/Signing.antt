@@ -27,16 +27,19 @@ with_header headers name value = insert headers (lowercase name) (secret_value v
 
 -- the name is none, or the value is none, or the name is new and the map is full
 abbrev pub RefusesHeader : HeaderList → List ℕ → List ℕ → Type 0
-RefusesHeader headers name value = ¬ (IsFieldName name) ⊎ (¬ (IsFieldValue value) ⊎ RefusesInsert headers (lowercase name))
+RefusesHeader headers name value =
+    ¬ (IsFieldName name) ⊎ (¬ (IsFieldValue value) ⊎ RefusesInsert headers (lowercase name))
 
 -- the header is set and the rest of the request stays, or the header is refused
 abbrev pub SignsByHeader : List ℕ → List ℕ → HttpRequest → Signed → Type 0
-SignsByHeader name value old (Request new) = (new ≡ record old { headers = with_header old.headers name value }) × ¬ (RefusesHeader old.headers name value)
+SignsByHeader name value old (Request new) =
+    (new ≡ record old { headers = with_header old.headers name value }) × ¬ (RefusesHeader old.headers name value)
 SignsByHeader name value old (Failed text) = (text ≡ codes "BadHeader") × RefusesHeader old.headers name value
 
 -- the target has the key and the rest of the request stays, or there is no such target
 abbrev pub SignsByQuery : List ℕ → List ℕ → HttpRequest → Signed → Type 0
-SignsByQuery name key old (Request new) = (target : List ℕ) × IsTargetSigned name key old.uri target × (new ≡ record old { uri = target })
+SignsByQuery name key old (Request new) =
+    (target : List ℕ) × IsTargetSigned name key old.uri target × (new ≡ record old { uri = target })
 SignsByQuery name key old (Failed text) = (text ≡ codes "BadUrl") × RefusesTarget name key old.uri
 
 -- the key behind the prefix and a space, if there is a prefix

@@ -9,11 +9,20 @@ use Rattle.identity_cell.specs.declared.identity_cache.SharedIdentityCache.TheVa
 
 -- no part is given
 abbrev pub no_parts : LazyCacheBuilder
-no_parts = record { time_source = false; sleep_impl = false; load_timeout = None; buffer_time = None; default_expiration = None; max_partitions = None }
+no_parts = record {
+  time_source = false;
+  sleep_impl = false;
+  load_timeout = None;
+  buffer_time = None;
+  default_expiration = None;
+  max_partitions = None;
+}
 
 -- no partition at all is refused first, then an expiration below 15 minutes
 abbrev pub refusal : LazyCacheBuilder → Option BuildError
-refusal parts = if unwrap_or parts.max_partitions 64 == 0 then Some ZeroPartitions else if nat_lt (unwrap_or parts.default_expiration 900000000000) 900000000000 then Some ShortExpiration else None
+refusal parts =
+    if unwrap_or parts.max_partitions 64 == 0 then Some ZeroPartitions
+    else if nat_lt (unwrap_or parts.default_expiration 900000000000) 900000000000 then Some ShortExpiration else None
 
 -- the parts, with 10 s, 15 minutes and 64 partitions where they are absent
 abbrev pub built : LazyCacheBuilder → SharedIdentityCache

@@ -1,5 +1,6 @@
 -- A cell as its callers see it, and what each call makes of it.
-use Rattle.std.specs.Prelude.{◌≡◌, ℕ, ◌+◌, ◌<◌, ◌==◌, nat_lt, Bool, true, false, Some, if◌then◌else◌, List, [], ◌∷◌, ◌++◌}
+use Rattle.std.specs.Prelude.{◌≡◌, ℕ, ◌+◌, ◌<◌, ◌==◌, nat_lt, Bool, true, false, Some, if◌then◌else◌, List, [], ◌∷◌}
+use Rattle.std.specs.Prelude.{◌++◌}
 use Rattle.identity_cell.specs.History.{Standing, begun_in, replay}
 use Rattle.identity_cell.specs.History as history
 use Rattle.identity_cell.specs.Log.{Log}
@@ -14,6 +15,7 @@ use Rattle.identity_cell.specs.declared.cell.Begin.TheVariants as begun
 use Rattle.identity_cell.specs.declared.cell.Cleared.{Cleared}
 use Rattle.identity_cell.specs.declared.cell.Cleared.TheVariants as cleared
 
+-- a cell for one value, with the whole history of its loads
 pub record Cell (T : Type 0) : Type 0 where
   -- how long before its expiry a value counts as expired
   pub buffer : ℕ
@@ -21,6 +23,7 @@ pub record Cell (T : Type 0) : Type 0 where
   -- all that happened to the cell
   pub events : List Event
 
+-- a new cell, to which nothing has happened
 abbrev pub empty_cell : {T : Type 0} → ℕ → Cell T
 empty_cell buffer = record { buffer = buffer; state = Empty; events = [] }
 
@@ -49,8 +52,10 @@ abbrev pub state_after_begin : {T : Type 0} → CellState T → ℕ → CellStat
 state_after_begin Empty loads = Loading loads
 state_after_begin state loads = state
 
+-- the cell after a begin: an empty one begins to load, any other keeps its state
 abbrev pub after_begin : {T : Type 0} → Cell T → Cell T
-after_begin cell = let loads = begun_in cell.events in moved cell (state_after_begin cell.state loads) (begin_event cell.state loads)
+after_begin cell =
+    let loads = begun_in cell.events in moved cell (state_after_begin cell.state loads) (begin_event cell.state loads)
 
 -- the answer of begin, with a copy of the value in the cell
 abbrev pub AnswersBegin : {T : Type 0} → (T → T → Type 0) → CellState T → ℕ → Begin T → Type 0
@@ -73,15 +78,19 @@ after_end cell ticket state event = if is_open cell.state ticket then moved cell
 abbrev pub reply_in : {T : Type 0} → ℕ → CellState T → ℕ → Bool → ClearReply
 reply_in buffer Empty now waited = reply.None
 reply_in buffer (Loading t) now waited = reply.NotYet
-reply_in buffer (Full t value expiry) now waited = if nat_lt (now + buffer) expiry then (if waited then reply.None else reply.Kept) else reply.None
+reply_in buffer (Full t value expiry) now waited =
+    if nat_lt (now + buffer) expiry then (if waited then reply.None else reply.Kept) else reply.None
 
 -- the state that such a caller leaves: an expired value goes
 abbrev pub state_after_clear : {T : Type 0} → ℕ → CellState T → ℕ → CellState T
 state_after_clear buffer (Full t value expiry) now = if nat_lt (now + buffer) expiry then Full t value expiry else Empty
 state_after_clear buffer state now = state
 
+-- the cell after a caller asked it at this moment: an expired value is gone
 abbrev pub after_clear : {T : Type 0} → Cell T → ℕ → Bool → Cell T
-after_clear cell now waited = moved cell (state_after_clear cell.buffer cell.state now) (event.Clear now waited (reply_in cell.buffer cell.state now waited))
+after_clear cell now waited =
+    moved cell (state_after_clear cell.buffer cell.state now)
+    (event.Clear now waited (reply_in cell.buffer cell.state now waited))
 
 -- the answer that goes with a reply, with a copy of the value in the cell
 abbrev pub AnswersClear : {T : Type 0} → (T → T → Type 0) → CellState T → ClearReply → Cleared T → Type 0

@@ -1,5 +1,6 @@
 -- The histories of a cell: which events may come where, and what they leave.
-use Rattle.std.specs.Prelude.{ℕ, ◌+◌, ◌==◌, ◌&&◌, nat_lt, not, Bool, Option, Some, None, option_and_then, if◌then◌else◌, List, [], ◌∷◌, IsSome}
+use Rattle.std.specs.Prelude.{ℕ, ◌+◌, ◌==◌, ◌&&◌, nat_lt, not, Bool, Option, Some, None, option_and_then, if◌then◌else◌}
+use Rattle.std.specs.Prelude.{List, [], ◌∷◌, IsSome}
 use Rattle.identity_cell.specs.declared.event.Event.{Event}
 use Rattle.identity_cell.specs.declared.event.Event.TheVariants.{Begin, Hit, Wait, Done, Failed, Dropped, Clear}
 use Rattle.identity_cell.specs.declared.event.ClearReply.{ClearReply}
@@ -14,8 +15,10 @@ pub data Standing : Type 0 where
 
 -- what is left where a caller that waited or not is answered so at a moment; nothing where it may not
 abbrev pub after_clear : ℕ → Standing → ℕ → Bool → ClearReply → Option Standing
-after_clear buffer (Full t expiry) now waited reply.Kept = if nat_lt (now + buffer) expiry && not waited then Some (Full t expiry) else None
-after_clear buffer (Full t expiry) now waited reply.None = if nat_lt (now + buffer) expiry then (if waited then Some (Full t expiry) else None) else Some Empty
+after_clear buffer (Full t expiry) now waited reply.Kept =
+    if nat_lt (now + buffer) expiry && not waited then Some (Full t expiry) else None
+after_clear buffer (Full t expiry) now waited reply.None =
+    if nat_lt (now + buffer) expiry then (if waited then Some (Full t expiry) else None) else Some Empty
 after_clear buffer Empty now waited reply.None = Some Empty
 after_clear buffer (Loading t) now waited reply.NotYet = Some (Loading t)
 after_clear buffer _ now waited _ = None
@@ -44,8 +47,10 @@ begun_in (e ∷ es) = begins e + begun_in es
 -- where these events lead, one after another; nowhere where one may not come
 abbrev pub replay_from : ℕ → ℕ → Standing → List Event → Option Standing
 replay_from buffer begun standing [] = Some standing
-replay_from buffer begun standing (e ∷ es) = option_and_then (λ next. replay_from buffer (begun + begins e) next es) (after buffer begun standing e)
+replay_from buffer begun standing (e ∷ es) =
+    option_and_then (λ next. replay_from buffer (begun + begins e) next es) (after buffer begun standing e)
 
+-- where a new cell's events lead; nowhere where one may not come
 abbrev pub replay : ℕ → List Event → Option Standing
 replay buffer events = replay_from buffer 0 Empty events
 

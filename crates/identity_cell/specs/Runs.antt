@@ -19,10 +19,12 @@ open_after tickets (event.Failed t) = filter (λ u. not (u == t)) tickets
 open_after tickets (event.Dropped t) = filter (λ u. not (u == t)) tickets
 open_after tickets _ = tickets
 
+-- the loads that are open once these events came, after these tickets were open
 abbrev pub open_loads_from : List ℕ → List Event → List ℕ
 open_loads_from tickets [] = tickets
 open_loads_from tickets (e ∷ es) = open_loads_from (open_after tickets e) es
 
+-- the loads that are open at the end of a history
 abbrev pub open_loads : List Event → List ℕ
 open_loads events = open_loads_from [] events
 
@@ -36,11 +38,14 @@ pub data Call (T : Type 0) : Type 0 where
 
 -- the call takes the cell from old to new
 abbrev pub Makes : {T : Type 0} → (T → T → Type 0) → Cell T → Call T → Cell T → Type 0
-Makes copies old (Began answer) new = AnswersBegin copies old.state (begun_in old.events) answer × (new ≡ after_begin old)
-Makes copies old (Done ticket value expiry) new = new ≡ after_end old ticket (state.Full ticket value expiry) (event.Done ticket expiry)
+Makes copies old (Began answer) new =
+    AnswersBegin copies old.state (begun_in old.events) answer × (new ≡ after_begin old)
+Makes copies old (Done ticket value expiry) new =
+    new ≡ after_end old ticket (state.Full ticket value expiry) (event.Done ticket expiry)
 Makes copies old (Failed ticket) new = new ≡ after_end old ticket state.Empty (event.Failed ticket)
 Makes copies old (Abandoned ticket) new = new ≡ after_end old ticket state.Empty (event.Dropped ticket)
-Makes copies old (Asked now waited answer) new = AnswersClear copies old.state (reply_in old.buffer old.state now waited) answer × (new ≡ after_clear old now waited)
+Makes copies old (Asked now waited answer) new =
+    AnswersClear copies old.state (reply_in old.buffer old.state now waited) answer × (new ≡ after_clear old now waited)
 
 -- the calls take the cell from old to new, one after another
 abbrev pub Run : {T : Type 0} → (T → T → Type 0) → Cell T → List (Call T) → Cell T → Type 0
@@ -54,7 +59,8 @@ answered (Asked now waited (cleared.Value value)) = Some value
 answered _ = None
 
 -- one of the calls ended the open load of the ticket with this value
-pub record WasDone {T : Type 0} (copies : T → T → Type 0) (start : Cell T) (calls : List (Call T)) (ticket : ℕ) (value : T) (expiry : ℕ) : Type 0 where
+pub record WasDone {T : Type 0} (copies : T → T → Type 0) (start : Cell T) (calls : List (Call T)) (ticket : ℕ)
+    (value : T) (expiry : ℕ) : Type 0 where
   pub earlier : List (Call T)
   pub later : List (Call T)
   pub split : calls ≡ earlier ++ Done ticket value expiry ∷ later
@@ -63,7 +69,8 @@ pub record WasDone {T : Type 0} (copies : T → T → Type 0) (start : Cell T) (
   pub loading : cell.state ≡ state.Loading ticket
 
 -- a value is a copy of the one that the Done of the ticket stored at which the cell stands
-pub record WasStored {T : Type 0} (copies : T → T → Type 0) (start : Cell T) (calls : List (Call T)) (cell : Cell T) (copy : T) : Type 0 where
+pub record WasStored {T : Type 0} (copies : T → T → Type 0) (start : Cell T) (calls : List (Call T)) (cell : Cell T)
+    (copy : T) : Type 0 where
   pub ticket : ℕ
   pub value : T
   pub expiry : ℕ

@@ -27,7 +27,8 @@ MayWait polls old held.Wait = Unit {0}
 MayWait polls old (held.Ticket t) = polls poll.Pending
 
 -- the answer, by what the load answered in this call, and what the caller holds then
-abbrev pub Answers : {T E : Type 0} → (T → T → Type 0) → (LoadPoll T E → Type 0) → Held → CacheAnswer T E → Held → Type 0
+abbrev pub Answers : {T E : Type 0} → (T → T → Type 0) → (LoadPoll T E → Type 0) → Held → CacheAnswer T E → Held →
+    Type 0
 Answers copies polls (held.Ticket t) (answer.Value copy) new = GaveCopy copies polls copy × (new ≡ held.Nothing)
 Answers copies polls old (answer.Value copy) new = new ≡ held.Nothing
 Answers copies polls old answer.NotYet new = MayWait polls old new
@@ -36,7 +37,9 @@ Answers copies polls old (answer.Failed e) new = polls (poll.Failed e) × (new �
 -- there was no memory: nothing happened, and the caller had no ticket, or there was none for the
 -- copy of a value that the load gave, and the load has failed
 abbrev pub GivesUp : {T E : Type 0} → (LoadPoll T E → Type 0) → Held → Held → Type 0
-GivesUp {T} polls old new = ((HasTicket old → ⊥) × (new ≡ old)) ⊎ ((value : T) × (expiry : ℕ) × polls (poll.Ready value expiry) × (new ≡ held.Nothing))
+GivesUp {T} polls old new =
+    ((HasTicket old → ⊥) × (new ≡ old))
+    ⊎ ((value : T) × (expiry : ℕ) × polls (poll.Ready value expiry) × (new ≡ held.Nothing))
 
 -- whether a caller is told to wait
 abbrev pub is_told_to_wait : {T : Type 0} → Cleared T → Bool

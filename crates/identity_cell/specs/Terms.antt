@@ -1,6 +1,7 @@
 -- The numbers that a lazy cache goes by, in nanoseconds.
 use Rattle.std.specs.Prelude.{ℕ, ◌<◌, ◌≤◌, Option}
 
+-- what a lazy cache goes by
 pub record Terms : Type 0 where
   -- how long a load may take; where it is absent, the settings say it
   pub load_timeout : Option ℕ

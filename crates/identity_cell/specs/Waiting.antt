@@ -12,7 +12,8 @@ pub record StandsIn (e : Event) (es : List Event) : Type 0 where
 
 -- a value that expires at this moment was removed
 abbrev pub ClearedIn : ℕ → ℕ → List Event → Type 0
-ClearedIn buffer expiry es = (now : ℕ) × (waited : Bool) × StandsIn (Clear now waited reply.None) es × (expiry ≤ now + buffer)
+ClearedIn buffer expiry es =
+    (now : ℕ) × (waited : Bool) × StandsIn (Clear now waited reply.None) es × (expiry ≤ now + buffer)
 
 -- the load of the ticket stored a value, and that was removed later
 pub record WasCleared (buffer ticket : ℕ) (es : List Event) : Type 0 where

@@ -9,6 +9,7 @@ use Rattle.smithy_types.specs.declared.fault.SdkError.{SdkError}
 use Rattle.smithy_types.specs.declared.payload.Payload.{Payload}
 use Rattle.smithy_context.specs.Failures.{sdk_error_of}
 
+-- the fault of a run at whose end no outcome stands
 abbrev pub no_outcome : Fault
 no_outcome = record { kind = faults.Other; text = codes "no outcome stands" }
 
@@ -22,12 +23,15 @@ answer_by c (Some (Output p)) = Ok p
 answer_by c (Some (Failed f)) = Err (error_in c f)
 answer_by c None = Err (error_in c no_outcome)
 
+-- what a run answers with this context at its end
 abbrev pub answer_of : InterceptorContext → Result Payload (SdkError Payload)
 answer_of c = answer_by c c.view.outcome
 
+-- the error of this outcome, if it is a failure; else that of a run without an outcome
 abbrev pub failure_by : InterceptorContext → Option Outcome → SdkError Payload
 failure_by c (Some (Failed f)) = error_in c f
 failure_by c _ = error_in c no_outcome
 
+-- the error of a run with this context at its end
 abbrev pub failure_of : InterceptorContext → SdkError Payload
 failure_of c = failure_by c c.view.outcome

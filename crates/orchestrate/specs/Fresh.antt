@@ -8,6 +8,7 @@ use Rattle.orchestrate.specs.declared.stage.Waiting.TheVariants.{NotWaiting}
 use Rattle.orchestrate.specs.declared.invocation.Invocation.{Invocation}
 use Rattle.orchestrate.specs.Points.{here, none_armed}
 
+-- an invocation with this input that has asked nothing
 abbrev pub fresh : Payload → StopPoint → Invocation
 fresh p stop = record {
   stop = stop;

@@ -6,7 +6,8 @@ use Rattle.orchestrate.specs.declared.execution.InvokeError.TheVariants.{Sdk, Un
 
 -- whatever world was related to the one before, it is related by the new entries too to the one after
 abbrev pub HandedOn : {W : Type 0} → (W → List Entry → W → Type 0) → W → W → List Entry → List Entry → Type 0
-HandedOn {W} relates old new before log = (m : List Entry) × (log ≡ before ++ m) × ((w : W) (l : List Entry) → relates w l old → relates w (l ++ m) new)
+HandedOn {W} relates old new before log =
+    (m : List Entry) × (log ≡ before ++ m) × ((w : W) (l : List Entry) → relates w l old → relates w (l ++ m) new)
 
 -- the answer isn't want of memory
 abbrev pub HadMemory : {X E : Type 0} → Result X (InvokeError E) → Type 0

@@ -13,5 +13,8 @@ use Rattle.orchestrate.specs.Finish.{answer_of}
 
 -- a whole list with a Configure that is not answered Layer has a ConstructionFailure for its answer
 abbrev pub ConfigurationsAreRefused : Type 0
-ConfigurationsAreRefused = (stop : StopPoint) (p : Payload) (before : List Entry) (e : Entry) (after : List Entry) → IsWhole stop (start p) (before ++ e ∷ after) →
-    is_configure (kind_of e) ≡ true → is_layer e.answer ≡ false → (f : Fault) × (answer_of (standing (start p) (before ++ e ∷ after)).context.context ≡ Err (ConstructionFailure f))
+ConfigurationsAreRefused =
+    (stop : StopPoint) (p : Payload) (before : List Entry) (e : Entry) (after : List Entry) →
+    IsWhole stop (start p) (before ++ e ∷ after) →
+    is_configure (kind_of e) ≡ true → is_layer e.answer ≡ false →
+    (f : Fault) × (answer_of (standing (start p) (before ++ e ∷ after)).context.context ≡ Err (ConstructionFailure f))

@@ -6,9 +6,13 @@ use Rattle.run_grammar.specs.declared.kind.Role.{Role}
 use Rattle.run_grammar.specs.declared.answer.Answer.{Answer}
 use Rattle.run_grammar.specs.Entry.{can_wait, is_pending, same_role, sets_failure}
 use Rattle.run_grammar.specs.Standing.{State}
-use Rattle.run_grammar.specs.Tests.{answers_delay, answers_go, answers_go_or_no, answers_started, answers_not_streaming, answers_read, answers_decided_yes, answers_decided_no_after, answers_decided_delay, failed, delayed, went, went_on, started, not_streaming, body_read, decided_yes, decided_no_after, decided_delay}
+use Rattle.run_grammar.specs.Tests.{answers_delay, answers_go, answers_go_or_no, answers_started, answers_not_streaming}
+use Rattle.run_grammar.specs.Tests.{answers_read, answers_decided_yes, answers_decided_no_after, answers_decided_delay}
+use Rattle.run_grammar.specs.Tests.{failed, delayed, went, went_on, started, not_streaming, body_read, decided_yes}
+use Rattle.run_grammar.specs.Tests.{decided_no_after, decided_delay}
 use Rattle.orchestrate.specs.declared.reply.Reply.{Reply}
 
+-- the role, if its sleep was started
 abbrev pub started_if : Bool → Role → Option Role
 started_if true r = Some r
 started_if false r = None
@@ -18,6 +22,7 @@ abbrev pub started_of : Kind → Answer → Option Role
 started_of (kinds.Start r) a = started_if (answers_started a) r
 started_of _ a = None
 
+-- whether the started sleep is that of this role
 abbrev pub started_by : Option Role → Role → Bool
 started_by None r = false
 started_by (Some q) r = same_role r q

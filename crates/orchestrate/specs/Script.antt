@@ -22,6 +22,7 @@ default_for (kinds.Abandon x) = answers.Abandoned
 default_for kinds.Park = answers.Parked
 default_for _ = answers.Absent
 
+-- the list's next answer
 abbrev pub next_of : List ScriptAnswer → Option ScriptAnswer
 next_of [] = None
 next_of (x ∷ xs) = Some x
@@ -44,11 +45,13 @@ RepliesBy next k a false = IsPassed k next × (a ≡ default_for k)
 abbrev pub Replies : List ScriptAnswer → Kind → Answer → Bool → Type 0
 Replies xs k a taken = RepliesBy (next_of xs) k a taken
 
+-- the answers that are left, where the next one was taken or wasn't
 abbrev pub left_by : Bool → List ScriptAnswer → List ScriptAnswer
 left_by true (x ∷ xs) = xs
 left_by _ xs = xs
 
--- each answer of the list of entries is what the answers give to its question, those that earlier questions took being gone
+-- each answer of the list of entries is what the answers give to its question,
+-- those that earlier questions took being gone
 abbrev pub Spelled : List ScriptAnswer → List Entry → List ScriptAnswer → Type 0
 Spelled xs [] ys = ys ≡ xs
 Spelled xs (e ∷ l) ys = (taken : Bool) × Replies xs (kind_of e) e.answer taken × Spelled (left_by taken xs) l ys

@@ -9,14 +9,17 @@ use Rattle.smithy_types.specs.declared.polled.Polled.TheVariants as polled
 use Rattle.outside.specs.declared.answers.Sent.{Sent}
 use Rattle.outside.specs.declared.answers.Sent.TheVariants as sent
 
+-- whether the answer is a failed transmission
 abbrev pub sent_fails : Result Sent OutOfMemory → Bool
 sent_fails (Ok (sent.Failed kind text)) = true
 sent_fails _ = false
 
+-- whether the answer is a failure of the body
 abbrev pub frame_fails : Result Polled OutOfMemory → Bool
 frame_fails (Ok (polled.Failed fault)) = true
 frame_fails _ = false
 
+-- whether the answer is a failed load of an identity
 abbrev pub load_fails : Result IdentityPoll OutOfMemory → Bool
 load_fails (Ok (identity.Failed text)) = true
 load_fails _ = false

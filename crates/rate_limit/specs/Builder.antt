@@ -4,8 +4,14 @@ use Rattle.rate_limit.specs.Curve.{most}
 use Rattle.rate_limit.specs.Pace.{Pace, zero_pace}
 use Rattle.rate_limit.specs.declared.builder.ClientRateLimiterBuilder.{ClientRateLimiterBuilder}
 
+-- a builder in which nothing is set
 abbrev pub unset : ClientRateLimiterBuilder
-unset = record { token_refill_rate = None; maximum_bucket_capacity = None; current_bucket_capacity = None; tokens_retrieved_per_second = None }
+unset = record {
+  token_refill_rate = None;
+  maximum_bucket_capacity = None;
+  current_bucket_capacity = None;
+  tokens_retrieved_per_second = None;
+}
 
 -- a part that isn't set is as in a limiter whose numbers are zero; the capacity is kept within its limit
 abbrev pub built : ClientRateLimiterBuilder → Pace

@@ -1,6 +1,7 @@
 -- The cube root of a whole number, rounded down.
 use Rattle.std.specs.Prelude.{◌≤◌, ℕ, zero, suc, ◌*◌, Bool, nat_le, if◌then◌else◌}
 
+-- the third power
 abbrev pub cube : ℕ → ℕ
 cube n = n * n * n
 

@@ -1,18 +1,22 @@
 -- How long a further attempt waits. All times are in nanoseconds.
-use Rattle.std.specs.Prelude.{ℕ, ◌+◌, ◌-◌, ◌*◌, ◌/◌, ◌^◌, min, max, nat_le, Bool, true, false, if◌then◌else◌, Option, None, Some}
+use Rattle.std.specs.Prelude.{ℕ, ◌+◌, ◌-◌, ◌*◌, ◌/◌, ◌^◌, min, max, nat_le, Bool, true, false, if◌then◌else◌, Option}
+use Rattle.std.specs.Prelude.{None, Some}
 use Rattle.smithy_types.specs.declared.config.RetryConfig.{RetryConfig}
 use Rattle.smithy_types.specs.declared.config.RetrySpec.{RetrySpec}
 use Rattle.smithy_types.specs.declared.config.RetrySpecVersion.{RetrySpecVersion}
 use Rattle.smithy_types.specs.declared.config.RetrySpecVersion.TheVariants.{V2_0, V2_1}
 use Rattle.smithy_types.specs.declared.kinds.ErrorKind.{ErrorKind}
-use Rattle.smithy_types.specs.declared.kinds.ErrorKind.TheVariants.{ThrottlingError, TransientError, ServerError, ClientError}
+use Rattle.smithy_types.specs.declared.kinds.ErrorKind.TheVariants.{ThrottlingError, TransientError, ServerError}
+use Rattle.smithy_types.specs.declared.kinds.ErrorKind.TheVariants.{ClientError}
 
+-- whether the service said that it gets too many requests
 abbrev pub is_throttling : ErrorKind → Bool
 is_throttling ThrottlingError = true
 is_throttling TransientError = false
 is_throttling ServerError = false
 is_throttling ClientError = false
 
+-- whether the version is 2.1
 abbrev pub is_second : RetrySpecVersion → Bool
 is_second V2_1 = true
 is_second V2_0 = false
@@ -44,7 +48,8 @@ part_of false word backoff = backoff * word / 2 ^ 64
 -- the backoff before an attempt after this one
 abbrev pub own_backoff : RetryConfig → ErrorKind → ℕ → ℕ → ℕ
 own_backoff retry kind attempt word =
-    part_of retry.static_base word (doubled (initial_by retry.initial_backoff kind retry.spec) attempt retry.max_backoff)
+    part_of retry.static_base word
+    (doubled (initial_by retry.initial_backoff kind retry.spec) attempt retry.max_backoff)
 
 -- under version 2.1 a delay that the service asks for is followed as far as five seconds past the own backoff
 abbrev pub within_five : Option ℕ → ℕ → ℕ
@@ -56,9 +61,12 @@ abbrev pub asked_or_own : ℕ → Option ℕ → ℕ → ℕ
 asked_or_own longest None own = own
 asked_or_own longest (Some asked) own = min asked longest
 
+-- outside of version 2.1: the limiter's delay, else the service's, else the own backoff
 abbrev pub limited_or_asked : ℕ → Option ℕ → Option ℕ → ℕ → ℕ
 limited_or_asked longest (Some limited) asked own = min limited longest
 limited_or_asked longest None asked own = asked_or_own longest asked own
 
+-- how long a further attempt waits, by what the limiter and the service ask for and the own backoff
 abbrev pub backoff_of : RetryConfig → Option ℕ → Option ℕ → ℕ → ℕ
-backoff_of retry limited asked own = if is_v2_1 retry.spec then within_five asked own else limited_or_asked retry.max_backoff limited asked own
+backoff_of retry limited asked own =
+    if is_v2_1 retry.spec then within_five asked own else limited_or_asked retry.max_backoff limited asked own

@@ -31,6 +31,7 @@ abbrev pub kind_of_status : List ℕ → Option HttpResponse → Option ErrorKin
 kind_of_status codes None = None
 kind_of_status codes (Some r) = if list_any (λ code. code == r.status) codes then Some TransientError else None
 
+-- what the classifier of these status codes says of the response
 abbrev pub status_says : List ℕ → InterceptorContext → RetryAction
 status_says codes c = retry_for (kind_of_status codes c.view.response)
 
@@ -39,6 +40,7 @@ abbrev pub modeled_kind : (Payload → Option ErrorKind) → Option FaultKind �
 modeled_kind kind_in (Some (fault.Operation payload)) = kind_in payload
 modeled_kind kind_in _ = None
 
+-- what the classifier of the service's own errors says of the outcome
 abbrev pub modeled_says : (Payload → Option ErrorKind) → InterceptorContext → RetryAction
 modeled_says kind_in c = retry_for (modeled_kind kind_in (failure_kind c.view.outcome))
 
@@ -56,5 +58,6 @@ transient_kind (Some fault.Timeout) = Some TransientError
 transient_kind (Some (fault.Connector kind)) = connector_error kind
 transient_kind _ = None
 
+-- what the classifier of transient failures says of the outcome
 abbrev pub transient_says : InterceptorContext → RetryAction
 transient_says c = retry_for (transient_kind (failure_kind c.view.outcome))

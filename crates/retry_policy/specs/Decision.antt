@@ -1,6 +1,7 @@
 -- What a strategy decides, and the calls on the quota that it makes for it. Nothing here asks what the quota tells: the
 -- replies of the limiter and of the bucket are handed in, and the quota's own meaning says which replies may come.
-use Rattle.std.specs.Prelude.{◌≡◌, ℕ, ◌/◌, Bool, true, false, ◌&&◌, if◌then◌else◌, nat_le, nat_lt, List, [], ◌∷◌, ◌++◌, Option, None, Some, IfSome, Result, Ok, Err}
+use Rattle.std.specs.Prelude.{◌≡◌, ℕ, ◌/◌, Bool, true, false, ◌&&◌, if◌then◌else◌, nat_le, nat_lt, List, [], ◌∷◌, ◌++◌}
+use Rattle.std.specs.Prelude.{Option, None, Some, IfSome, Result, Ok, Err}
 use Rattle.smithy_context.specs.StandingLayers.{StandingLayers}
 use Rattle.smithy_context.specs.declared.context.InterceptorContext.{InterceptorContext}
 use Rattle.smithy_context.specs.Failures.{is_failure}
@@ -17,7 +18,8 @@ use Rattle.smithy_types.specs.declared.partition.RetryPartition.{RetryPartition}
 use Rattle.retry_quota.specs.declared.limiter.RequestReason.{RequestReason}
 use Rattle.retry_quota.specs.declared.limiter.RequestReason.TheVariants.{Retry, RetryTimeout, InitialRequest}
 use Rattle.retry_quota.specs.declared.permit.Permit.{Permit}
-use Rattle.retry_quota.specs.Calls.{QuotaCall, OnBucket, Settled, AskedLimiter, ToldLimiter, FoundLimiter, Limiters, Calls}
+use Rattle.retry_quota.specs.Calls.{QuotaCall, OnBucket, Settled, AskedLimiter, ToldLimiter, FoundLimiter, Limiters}
+use Rattle.retry_quota.specs.Calls.{Calls}
 use Rattle.retry_quota.specs.History.{Acquire, Release, Forget, Reward, Regenerate, Done, acquire_reply}
 use Rattle.retry_quota.specs.Meaning.{Meaning}
 use Rattle.retry_policy.specs.Backoff.{is_throttling, is_v2_1, polls_for_long, own_backoff, backoff_of}
@@ -50,6 +52,7 @@ pub record Decided : Type 0 where
   pub calls : List QuotaCall
   pub held : Option Permit
 
+-- whether the verdict is a retry after throttling, which lowers the limiter's rate
 abbrev pub verdict_throttles : RetryAction → Bool
 verdict_throttles (RetryIndicated kind retry_after) = is_throttling kind
 verdict_throttles NoActionIndicated = false
@@ -60,10 +63,12 @@ abbrev pub telling : Option Paced → RetryAction → List QuotaCall
 telling None verdict = []
 telling (Some paced) verdict = ToldLimiter paced.limiter paced.now (verdict_throttles verdict) ∷ []
 
+-- a held permit is given up: its tokens don't come back to the bucket
 abbrev pub forgetting : Option Permit → List QuotaCall
 forgetting None = []
 forgetting (Some permit) = Settled permit.bucket (Forget permit.amount) ∷ []
 
+-- a held permit is given back: its tokens are available again
 abbrev pub releasing : Option Permit → List QuotaCall
 releasing None = []
 releasing (Some permit) = Settled permit.bucket (Release permit.amount) ∷ []
@@ -73,19 +78,23 @@ abbrev pub giving_back : ℕ → Option Permit → List QuotaCall
 giving_back bucket None = OnBucket bucket Regenerate Done ∷ []
 giving_back bucket (Some permit) = Settled permit.bucket (Release permit.amount) ∷ []
 
--- where the bucket in force rewards successes, it is credited with the reward in place of that, and the permit is given up
+-- where the bucket in force rewards successes, it is credited with the reward in place of that,
+-- and the permit is given up
 abbrev pub settling : ℕ → ℕ → Option Permit → List QuotaCall
 settling bucket reward held =
     if nat_lt 0 reward then OnBucket bucket Reward Done ∷ forgetting held else giving_back bucket held
 
+-- what a success does at the buckets; a failure settles nothing yet
 abbrev pub settled : Bool → ℕ → ℕ → Option Permit → List QuotaCall
 settled true bucket reward held = []
 settled false bucket reward held = settling bucket reward held
 
+-- the permit that is still held: a failure keeps it for the next attempt, a success has settled it
 abbrev pub held_on : Bool → Option Permit → Option Permit
 held_on true held = held
 held_on false held = None
 
+-- the reason by which the limiter charges a retry after an error of this kind
 abbrev pub reason_for : ErrorKind → RequestReason
 reason_for kind = if is_throttling kind then RetryTimeout else Retry
 
@@ -95,6 +104,7 @@ asking true paced reason reply = []
 asking false None reason reply = []
 asking false (Some paced) reason reply = AskedLimiter paced.limiter paced.now reason reply ∷ []
 
+-- how long the limiter wants a request to wait
 abbrev pub delay_in : Result (Unit {0}) ℕ → Option ℕ
 delay_in (Ok granted) = None
 delay_in (Err delay) = Some delay
@@ -105,10 +115,12 @@ limited true paced reply = None
 limited false None reply = None
 limited false (Some paced) reply = delay_in reply
 
+-- the second of a moment, as a bucket counts the time; 0 without a time source
 abbrev pub second_of : Option ℕ → ℕ
 second_of None = 0
 second_of (Some now) = now / 1000000000
 
+-- no retry, for this reason; the quota isn't called and the permit stays as it was
 abbrev pub refusing : Reason → Option Permit → Decided
 refusing reason held = record { choice = No; reason = reason; long_poll = None; calls = []; held = held }
 
@@ -133,14 +145,16 @@ paying c kind backoff held (Some amount) = record {
 abbrev pub retrying : Case → ErrorKind → Option ℕ → Option Permit → Result (Unit {0}) ℕ → Option ℕ → Decided
 retrying c kind retry_after held reply grant =
     let version = is_v2_1 c.retry.spec in
-    let backoff = backoff_of c.retry (limited version c.paced reply) retry_after (own_backoff c.retry kind c.attempt c.word) in
+    let backoff =
+    backoff_of c.retry (limited version c.paced reply) retry_after (own_backoff c.retry kind c.attempt c.word) in
     let paid = paying c kind backoff held grant in
     record paid { calls = asking version c.paced (reason_for kind) reply ++ paid.calls }
 
 -- by the verdict, and by the attempts that were made
 abbrev pub deciding : Case → RetryAction → Option Permit → Result (Unit {0}) ℕ → Option ℕ → Decided
 deciding c (RetryIndicated kind retry_after) held reply grant =
-    if nat_le c.retry.max_attempts c.attempt then refusing OutOfAttempts held else retrying c kind retry_after held reply grant
+    if nat_le c.retry.max_attempts c.attempt then refusing OutOfAttempts held
+    else retrying c kind retry_after held reply grant
 deciding c NoActionIndicated held reply grant = refusing NotIndicated held
 deciding c RetryForbidden held reply grant = refusing NotIndicated held
 
@@ -151,8 +165,10 @@ decision c held reply grant =
     record d { calls = telling c.paced c.verdict ++ (settled c.failed c.bucket c.reward held ++ d.calls) }
 
 -- whether a limiter is used, which one: that of the standing partition
-abbrev pub FindsLimiter : {L : Type 0} → Limiters L → Meaning L → Bool → Option ℕ → Option RetryPartition → Option Paced → Meaning L → Type 0
-FindsLimiter means m true (Some now) (Some partition) (Some paced) n = (paced.now ≡ now) × Calls means m (FoundLimiter partition now paced.limiter) n
+abbrev pub FindsLimiter : {L : Type 0} → Limiters L → Meaning L → Bool → Option ℕ → Option RetryPartition →
+    Option Paced → Meaning L → Type 0
+FindsLimiter means m true (Some now) (Some partition) (Some paced) n =
+    (paced.now ≡ now) × Calls means m (FoundLimiter partition now paced.limiter) n
 FindsLimiter means m false now partition None n = n ≡ m
 FindsLimiter means m _ _ _ _ n = ⊥
 
@@ -162,7 +178,9 @@ cost_for cost (RetryIndicated kind retry_after) = cost kind
 cost_for cost NoActionIndicated = 0
 cost_for cost RetryForbidden = 0
 
-abbrev pub case_of : {L : Type 0} → RetryConfig → ℕ → Bool → ℕ → RetryAction → Option ℕ → ℕ → Option Paced → Meaning L → Case
+-- what a decision goes by, with the cost and the reward of the bucket in force
+abbrev pub case_of : {L : Type 0} → RetryConfig → ℕ → Bool → ℕ → RetryAction → Option ℕ → ℕ → Option Paced → Meaning L →
+    Case
 case_of retry bucket failed attempt verdict now word paced m = record {
   retry = retry;
   bucket = bucket;
@@ -177,15 +195,17 @@ case_of retry bucket failed attempt verdict now word paced m = record {
 }
 
 -- the standing settings that a strategy goes by, and what became of the quota as their limiter was found
-pub record Stands {L : Type 0} (means : Limiters L) (m : Meaning L) (settings : StandingLayers) (now : Option ℕ) (retry : RetryConfig) (bucket : ℕ) (paced : Option Paced) (n : Meaning L) : Type 0 where
+pub record Stands {L : Type 0} (means : Limiters L) (m : Meaning L) (settings : StandingLayers) (now : Option ℕ)
+    (retry : RetryConfig) (bucket : ℕ) (paced : Option Paced) (n : Meaning L) : Type 0 where
   pub retry_stands : standing_retry settings ≡ Some retry
   pub bucket_stands : standing_bucket settings ≡ Some bucket
   pub there : m.has bucket ≡ true
   pub found : FindsLimiter means m (uses_limiter retry now) now (standing_partition settings) paced n
 
--- with some replies of the limiter and of the bucket it is so decided, and the quota makes the calls of it; a bucket that
--- grants gives just the tokens that the reason shows
-pub record Comes {L : Type 0} (means : Limiters L) (m : Meaning L) (decided : Result (Unit {0}) ℕ → Option ℕ → Decided) (d : Decision) (held_after : Option Permit) (n : Meaning L) : Type 0 where
+-- with some replies of the limiter and of the bucket it is so decided, and the quota makes the calls of it;
+-- a bucket that grants gives just the tokens that the reason shows
+pub record Comes {L : Type 0} (means : Limiters L) (m : Meaning L) (decided : Result (Unit {0}) ℕ → Option ℕ → Decided)
+    (d : Decision) (held_after : Option Permit) (n : Meaning L) : Type 0 where
   pub reply : Result (Unit {0}) ℕ
   pub grant : Option ℕ
   pub shown : IfSome grant (λ amount. d.reason ≡ Granted amount)
@@ -196,14 +216,18 @@ pub record Comes {L : Type 0} (means : Limiters L) (m : Meaning L) (decided : Re
   pub made : Chained (Calls means) m (decided reply grant).calls n
 
 -- the strategy decides so
-pub record Decides {L : Type 0} (means : Limiters L) (m : Meaning L) (settings : StandingLayers) (c : InterceptorContext) (verdict : RetryAction) (now : Option ℕ) (word : ℕ) (held : Option Permit) (d : Decision) (held_after : Option Permit) (n : Meaning L) : Type 0 where
+pub record Decides {L : Type 0} (means : Limiters L) (m : Meaning L) (settings : StandingLayers)
+    (c : InterceptorContext) (verdict : RetryAction) (now : Option ℕ) (word : ℕ) (held : Option Permit) (d : Decision)
+    (held_after : Option Permit) (n : Meaning L) : Type 0 where
   pub retry : RetryConfig
   pub bucket : ℕ
   pub paced : Option Paced
   -- what the quota means once the limiter is found
   pub mid : Meaning L
   pub stands : Stands means m settings now retry bucket paced mid
-  pub comes : Comes means mid (decision (case_of retry bucket (is_failure c.view.outcome) c.view.attempt verdict now word paced mid) held) d held_after n
+  pub comes : Comes means mid
+      (decision (case_of retry bucket (is_failure c.view.outcome) c.view.attempt verdict now word paced mid) held) d
+      held_after n
 
 -- the first attempt waits as long as the limiter asks
 abbrev pub initially : Option Paced → Result (Unit {0}) ℕ → Initial
@@ -211,7 +235,9 @@ initially None reply = initial.Go
 initially (Some paced) (Ok granted) = initial.Go
 initially (Some paced) (Err delay) = initial.Delay delay
 
-pub record Begins {L : Type 0} (means : Limiters L) (m : Meaning L) (settings : StandingLayers) (now : Option ℕ) (first : Initial) (n : Meaning L) : Type 0 where
+-- the strategy answers the question for the first attempt: it may go, or waits as the limiter asks
+pub record Begins {L : Type 0} (means : Limiters L) (m : Meaning L) (settings : StandingLayers) (now : Option ℕ)
+    (first : Initial) (n : Meaning L) : Type 0 where
   pub retry : RetryConfig
   pub bucket : ℕ
   pub paced : Option Paced
@@ -222,7 +248,8 @@ pub record Begins {L : Type 0} (means : Limiters L) (m : Meaning L) (settings : 
   pub made : Chained (Calls means) mid (asking false paced InitialRequest reply) n
 
 -- what a limiter's answer is, and the call for it
-pub record Asks {L : Type 0} (means : Limiters L) (m : Meaning L) (version : Bool) (paced : Option Paced) (reason : RequestReason) (delay : Option ℕ) (n : Meaning L) : Type 0 where
+pub record Asks {L : Type 0} (means : Limiters L) (m : Meaning L) (version : Bool) (paced : Option Paced)
+    (reason : RequestReason) (delay : Option ℕ) (n : Meaning L) : Type 0 where
   pub reply : Result (Unit {0}) ℕ
   pub answer : delay ≡ limited version paced reply
   pub made : Chained (Calls means) m (asking version paced reason reply) n

@@ -18,6 +18,7 @@ use Rattle.smithy_types.specs.declared.notes.RetryAction.TheVariants.{RetryIndic
 use Rattle.retry_policy.specs.Backoff.{is_v2_1}
 use Rattle.retry_policy.specs.Standing.{standing_retry}
 
+-- a hook's answer that changes nothing, sets nothing and doesn't fail
 abbrev pub nothing_set : HookAnswer
 nothing_set = record { change = None; settings = []; failure = None }
 
@@ -25,14 +26,17 @@ nothing_set = record { change = None; settings = []; failure = None }
 abbrev pub sets : Setting → HookAnswer
 sets setting = record { change = None; settings = entry (key_of setting) (Some setting) ∷ []; failure = None }
 
+-- the hook in which the bucket's number is set
 abbrev pub is_before_retry_loop : Hook → Bool
 is_before_retry_loop hooks.ModifyBeforeRetryLoop = true
 is_before_retry_loop _ = false
 
+-- the hook in which the connection is captured
 abbrev pub is_before_transmit : Hook → Bool
 is_before_transmit hooks.ModifyBeforeTransmit = true
 is_before_transmit _ = false
 
+-- the hook in which the connection may be given up
 abbrev pub is_after_deserialization : Hook → Bool
 is_after_deserialization hooks.ReadAfterDeserialization = true
 is_after_deserialization _ = false
@@ -48,6 +52,7 @@ abbrev pub is_plain_transient : RetryAction → Bool
 is_plain_transient (RetryIndicated TransientError None) = true
 is_plain_transient _ = false
 
+-- whether the mode asks for another connection after a transient failure
 abbrev pub is_reconnecting : ReconnectMode → Bool
 is_reconnecting ReconnectOnTransientError = true
 is_reconnecting ReuseAllConnections = false
@@ -57,6 +62,7 @@ abbrev pub reconnects : Option RetryConfig → Bool
 reconnects None = true
 reconnects (Some retry) = is_reconnecting retry.reconnect && not (is_v2_1 retry.spec)
 
+-- whether the verdict has the connection given up, so that no later request uses it
 abbrev pub poisons : RetryAction → Option RetryConfig → Bool
 poisons verdict retry = is_plain_transient verdict && reconnects retry
 
@@ -64,5 +70,6 @@ poisons verdict retry = is_plain_transient verdict && reconnects retry
 abbrev pub connection_answer : Hook → RetryAction → HookView → HookAnswer
 connection_answer hook verdict view =
     if is_before_transmit hook then sets (set.Capture view.attempt)
-    else if is_after_deserialization hook && poisons verdict (standing_retry view.settings) then sets (set.Poisoned view.attempt)
+    else if is_after_deserialization hook && poisons verdict (standing_retry view.settings)
+    then sets (set.Poisoned view.attempt)
     else nothing_set

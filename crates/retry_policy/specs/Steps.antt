@@ -19,6 +19,7 @@ abbrev pub steps_of : (ℕ → Bool) → List QuotaCall → List Entry
 steps_of has [] = []
 steps_of has (call ∷ calls) = steps_in has call ++ steps_of has calls
 
+-- how many permits a reply grants
 abbrev pub permits_in : Reply → ℕ
 permits_in (Granted amount) = 1
 permits_in Refused = 0
@@ -26,6 +27,7 @@ permits_in Done = 0
 permits_in (Level full empty) = 0
 permits_in (Seen sums) = 0
 
+-- how many permits a call on the quota is granted
 abbrev pub permits_by : QuotaCall → ℕ
 permits_by (OnBucket bucket step reply) = permits_in reply
 permits_by (Settled bucket step) = 0

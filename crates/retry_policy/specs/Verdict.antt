@@ -10,13 +10,15 @@ replaced NoActionIndicated verdict = verdict
 replaced (RetryIndicated kind retry_after) verdict = RetryIndicated kind retry_after
 replaced RetryForbidden verdict = RetryForbidden
 
+-- whether a classifier forbids the retry
 abbrev pub is_forbidden : RetryAction → Bool
 is_forbidden RetryForbidden = true
 is_forbidden NoActionIndicated = false
 is_forbidden (RetryIndicated kind retry_after) = false
 
 -- each is handed the verdict so far; a forbidden retry is the verdict, whatever the others would say
-abbrev pub verdict_of : {C : Type 0} → (C → InterceptorContext → RetryAction → RetryAction) → InterceptorContext → List C → RetryAction → RetryAction
+abbrev pub verdict_of : {C : Type 0} → (C → InterceptorContext → RetryAction → RetryAction) → InterceptorContext →
+    List C → RetryAction → RetryAction
 verdict_of says c [] verdict = verdict
 verdict_of says c (x ∷ xs) verdict =
     if is_forbidden (says x c verdict) then RetryForbidden

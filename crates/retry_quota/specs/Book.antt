@@ -1,7 +1,9 @@
 -- A token bucket as a book of plain sums: what it is, and what each step makes of it.
-use Rattle.std.specs.Prelude.{◌≡◌, ℕ, ◌+◌, ◌-◌, ◌*◌, ◌/◌, ◌%◌, ◌^◌, ◌<◌, ◌≤◌, ◌==◌, ◌&&◌, Bool, not, if◌then◌else◌, nat_lt, nat_le, min, Option, None, Some}
+use Rattle.std.specs.Prelude.{◌≡◌, ℕ, ◌+◌, ◌-◌, ◌*◌, ◌/◌, ◌%◌, ◌^◌, ◌<◌, ◌≤◌, ◌==◌, ◌&&◌, Bool, not, if◌then◌else◌}
+use Rattle.std.specs.Prelude.{nat_lt, nat_le, min, Option, None, Some}
 use Rattle.smithy_types.specs.declared.kinds.ErrorKind.{ErrorKind}
-use Rattle.smithy_types.specs.declared.kinds.ErrorKind.TheVariants.{TransientError, ThrottlingError, ServerError, ClientError}
+use Rattle.smithy_types.specs.declared.kinds.ErrorKind.TheVariants.{TransientError, ThrottlingError, ServerError}
+use Rattle.smithy_types.specs.declared.kinds.ErrorKind.TheVariants.{ClientError}
 use Rattle.smithy_types.specs.declared.sums.Sums.{Sums}
 use Rattle.smithy_types.specs.declared.config.RetrySpec.{RetrySpec}
 use Rattle.smithy_types.specs.declared.config.RetrySpecVersion.{RetrySpecVersion}
@@ -32,6 +34,7 @@ pub record Terms : Type 0 where
   pub reward : ℕ
   pub rate : ℕ
 
+-- the terms of a book: its numbers that no step changes
 abbrev pub terms_of : Book → Terms
 terms_of b = record {
   capacity = b.capacity;
@@ -78,10 +81,12 @@ abbrev pub version_book : RetrySpecVersion → Book
 version_book V2_0 = plain_book 500
 version_book V2_1 = opening 500 14 5 14 0 0
 
+-- the book of a new default partition; without a specification it is that of version 2.0
 abbrev pub default_book : Option RetrySpec → Book
 default_book None = plain_book 500
 default_book (Some spec) = version_book spec.version
 
+-- what a retry after an error of this kind takes from the bucket
 abbrev pub cost_of : ErrorKind → Book → ℕ
 cost_of TransientError b = b.transient_cost
 cost_of ThrottlingError b = b.throttling_cost
@@ -122,6 +127,7 @@ convert b = add (b.fraction / 1000) (record b { fraction = b.fraction % 1000 })
 abbrev pub ready : ℕ → Book → Book
 ready second b = convert (refill second b)
 
+-- tokens of this cost are no longer available: a permit holds them
 abbrev pub spend : ℕ → Book → Book
 spend cost b = record b { available = b.available - cost; held = b.held + cost }
 
@@ -139,15 +145,19 @@ forget amount b =
     then record b { held = b.held - amount; forgotten = b.forgotten + amount }
     else b
 
+-- a success adds its reward to the fraction
 abbrev pub credit : Book → Book
 credit b = record b { fraction = raised b.reward b }
 
+-- whether the bucket has no room for a further token
 abbrev pub is_full : Book → Bool
 is_full b = nat_le b.capacity b.available
 
+-- whether no token is available
 abbrev pub is_empty : Book → Bool
 is_empty b = b.available == 0
 
+-- the sums of tokens that a reader of the bucket sees
 abbrev pub sums_of : Book → Sums
 sums_of b = record {
   capacity = b.capacity;

@@ -8,6 +8,7 @@ use Rattle.retry_quota.specs.declared.limiter.RequestReason.{RequestReason}
 use Rattle.retry_quota.specs.History.{Step, Reply}
 use Rattle.retry_quota.specs.Meaning.{Meaning, Steps, Settles, ChangesLimiter, AnswersBucket, AnswersLimiter}
 
+-- a call on a quota with what it answered
 pub data QuotaCall : Type 0 where
   -- a bucket makes the step and replies so
   OnBucket : ℕ → Step → Reply → QuotaCall
@@ -29,20 +30,30 @@ pub record Limiters (L : Type 0) : Type 0 where
   pub reply_to : L → ℕ → RequestReason → Result (Unit {0}) ℕ
   pub after_update : L → ℕ → Bool → L
 
-abbrev pub limiters_by : {L : Type 0} → (ℕ → L) → (L → ℕ → RequestReason → L) → (L → ℕ → RequestReason → Result (Unit {0}) ℕ) → (L → ℕ → Bool → L) → Limiters L
-limiters_by at after_acquire reply_to after_update = record { at = at; after_acquire = after_acquire; reply_to = reply_to; after_update = after_update }
+-- limiters that begin so, and answer and change so
+abbrev pub limiters_by : {L : Type 0} → (ℕ → L) → (L → ℕ → RequestReason → L) →
+    (L → ℕ → RequestReason → Result (Unit {0}) ℕ) → (L → ℕ → Bool → L) → Limiters L
+limiters_by at after_acquire reply_to after_update = record {
+  at = at;
+  after_acquire = after_acquire;
+  reply_to = reply_to;
+  after_update = after_update;
+}
 
 -- what a limiter answers; a number that isn't there refuses nothing
 abbrev pub limiter_reply : {L : Type 0} → Limiters L → Meaning L → ℕ → ℕ → RequestReason → Result (Unit {0}) ℕ
-limiter_reply means m limiter now reason = option_map_or (λ l. means.reply_to l now reason) (slice_get m.limiters limiter) (Ok tt)
+limiter_reply means m limiter now reason =
+    option_map_or (λ l. means.reply_to l now reason) (slice_get m.limiters limiter) (Ok tt)
 
 -- the call is made on a quota that means m, and then it means n
 abbrev pub Calls : {L : Type 0} → Limiters L → Meaning L → QuotaCall → Meaning L → Type 0
 Calls means m (OnBucket bucket step reply) n = Steps m bucket step reply n
 Calls means m (Settled bucket step) n = Settles m bucket step n
 Calls means m (AskedLimiter limiter now reason reply) n =
-    ChangesLimiter m limiter (λ l. means.after_acquire l now reason) n × (reply ≡ limiter_reply means m limiter now reason)
-Calls means m (ToldLimiter limiter now throttled) n = ChangesLimiter m limiter (λ l. means.after_update l now throttled) n
+    ChangesLimiter m limiter (λ l. means.after_acquire l now reason) n
+    × (reply ≡ limiter_reply means m limiter now reason)
+Calls means m (ToldLimiter limiter now throttled) n =
+    ChangesLimiter m limiter (λ l. means.after_update l now throttled) n
 Calls means m (FoundBucket partition spec number) n = AnswersBucket m partition spec number n
 Calls means m (FoundLimiter partition now number) n = AnswersLimiter m partition (means.at now) number n
 

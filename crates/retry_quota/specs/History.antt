@@ -2,8 +2,10 @@
 use Rattle.std.specs.Prelude.{◌≡◌, ℕ, Bool, if◌then◌else◌, nat_le, List, [], ◌∷◌, Option, None, Some}
 use Rattle.smithy_types.specs.declared.kinds.ErrorKind.{ErrorKind}
 use Rattle.smithy_types.specs.declared.sums.Sums.{Sums}
-use Rattle.retry_quota.specs.Book.{Book, cost_of, ready, spend, release, forget, credit, add, convert, is_full, is_empty, sums_of}
+use Rattle.retry_quota.specs.Book.{Book, cost_of, ready, spend, release, forget, credit, add, convert, is_full}
+use Rattle.retry_quota.specs.Book.{is_empty, sums_of}
 
+-- what is asked of a bucket
 pub data Step : Type 0 where
   Acquire : ErrorKind → ℕ → Step
   Release : ℕ → Step
@@ -13,6 +15,7 @@ pub data Step : Type 0 where
   Convert : Step
   Look : Step
 
+-- what a bucket replies
 pub data Reply : Type 0 where
   Granted : ℕ → Reply
   Refused : Reply
@@ -54,6 +57,7 @@ abbrev pub acquire_reply : Option ℕ → Reply
 acquire_reply None = Refused
 acquire_reply (Some cost) = Granted cost
 
+-- a step and its reply in a history
 pub record Entry : Type 0 where
   pub step : Step
   pub reply : Reply

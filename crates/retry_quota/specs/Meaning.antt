@@ -1,5 +1,6 @@
 -- What a quota means to those that spend from it, and what a call does to that.
-use Rattle.std.specs.Prelude.{◌≡◌, ℕ, Bool, false, true, nat_lt, IsTrue, List, [], ◌∷◌, ◌++◌, Option, None, Some, IfSome, slice_get, length, option_map, MatchOption, ◌≢◌, ◌<◌}
+use Rattle.std.specs.Prelude.{◌≡◌, ℕ, Bool, false, true, nat_lt, IsTrue, List, [], ◌∷◌, ◌++◌, Option, None, Some}
+use Rattle.std.specs.Prelude.{IfSome, slice_get, length, option_map, MatchOption, ◌≢◌, ◌<◌}
 use Rattle.std.specs.Option.{IfNone}
 use Rattle.smithy_types.specs.declared.kinds.ErrorKind.{ErrorKind}
 use Rattle.smithy_types.specs.declared.config.RetrySpec.{RetrySpec}
@@ -28,7 +29,8 @@ pub record Meaning (L : Type 0) : Type 0 where
 -- where the books are told, they are those of the buckets that are there, with their costs and rewards
 pub record AreTheBuckets {L : Type 0} (m : Meaning L) (books : List Book) : Type 0 where
   pub there : (bucket : ℕ) → m.has bucket ≡ nat_lt bucket (length books)
-  pub costs : (bucket : ℕ) → IfSome (slice_get books bucket) (λ b. (kind : ErrorKind) → m.cost bucket kind ≡ cost_of kind b)
+  pub costs : (bucket : ℕ) →
+      IfSome (slice_get books bucket) (λ b. (kind : ErrorKind) → m.cost bucket kind ≡ cost_of kind b)
   pub rewards : (bucket : ℕ) → IfSome (slice_get books bucket) (λ b. m.reward bucket ≡ b.reward)
 
 -- the buckets, what they cost and which names they have are as before
@@ -81,11 +83,13 @@ abbrev pub book_in : Option (List Book) → ℕ → Option Book
 book_in None bucket = None
 book_in (Some books) bucket = slice_get books bucket
 
+-- the book of a bucket, where the quota tells its books
 abbrev pub book_at : {L : Type 0} → Meaning L → ℕ → Option Book
 book_at m bucket = book_in m.books bucket
 
 -- a bucket with this book is added under the partition, and nothing else changes
-pub record AddsBucket {L : Type 0} (m : Meaning L) (partition : RetryPartition) (book : Book) (number : ℕ) (n : Meaning L) : Type 0 where
+pub record AddsBucket {L : Type 0} (m : Meaning L) (partition : RetryPartition) (book : Book) (number : ℕ)
+    (n : Meaning L) : Type 0 where
   pub new : m.has number ≡ false
   pub there : n.has number ≡ true
   pub others_there : (bucket : ℕ) → bucket ≢ number → n.has bucket ≡ m.has bucket
@@ -95,7 +99,8 @@ pub record AddsBucket {L : Type 0} (m : Meaning L) (partition : RetryPartition) 
   pub other_rewards : (bucket : ℕ) → bucket ≢ number → n.reward bucket ≡ m.reward bucket
   pub books : n.books ≡ option_map (λ books. books ++ book ∷ []) m.books
   pub named : n.bucket_of partition ≡ Some number
-  pub other_names : (other : RetryPartition) → same_partition other partition ≡ false → n.bucket_of other ≡ m.bucket_of other
+  pub other_names : (other : RetryPartition) → same_partition other partition ≡ false →
+      n.bucket_of other ≡ m.bucket_of other
   pub limiter_of : (other : RetryPartition) → n.limiter_of other ≡ m.limiter_of other
   pub entries : n.entries ≡ m.entries
   pub limiters : n.limiters ≡ m.limiters
@@ -104,7 +109,8 @@ pub record AddsBucket {L : Type 0} (m : Meaning L) (partition : RetryPartition) 
 -- specification
 abbrev pub AnswersBucket : {L : Type 0} → Meaning L → RetryPartition → Option RetrySpec → ℕ → Meaning L → Type 0
 AnswersBucket m partition spec number n = MatchOption partition.custom
-    (MatchOption (m.bucket_of partition) (AddsBucket m partition (default_book spec) number n) (λ known. (number ≡ known) × IsKept m n))
+    (MatchOption (m.bucket_of partition) (AddsBucket m partition (default_book spec) number n)
+    (λ known. (number ≡ known) × IsKept m n))
     (λ numbers. (number ≡ numbers.bucket) × IsKept m n)
 
 -- the bucket of a default partition is there; of the number that a custom one brings nothing is said
@@ -112,11 +118,13 @@ abbrev pub BucketIsThere : {L : Type 0} → Meaning L → RetryPartition → ℕ
 BucketIsThere m partition number = IfNone partition.custom (IsTrue (m.has number))
 
 -- a limiter is added under the partition, and nothing else changes
-pub record AddsLimiter {L : Type 0} (m : Meaning L) (partition : RetryPartition) (limiter : L) (number : ℕ) (n : Meaning L) : Type 0 where
+pub record AddsLimiter {L : Type 0} (m : Meaning L) (partition : RetryPartition) (limiter : L) (number : ℕ)
+    (n : Meaning L) : Type 0 where
   pub new : number ≡ length m.limiters
   pub limiters : n.limiters ≡ m.limiters ++ limiter ∷ []
   pub named : n.limiter_of partition ≡ Some number
-  pub other_names : (other : RetryPartition) → same_partition other partition ≡ false → n.limiter_of other ≡ m.limiter_of other
+  pub other_names : (other : RetryPartition) → same_partition other partition ≡ false →
+      n.limiter_of other ≡ m.limiter_of other
   pub bucket_of : (other : RetryPartition) → n.bucket_of other ≡ m.bucket_of other
   pub has : (bucket : ℕ) → n.has bucket ≡ m.has bucket
   pub cost : (bucket : ℕ) (kind : ErrorKind) → n.cost bucket kind ≡ m.cost bucket kind
@@ -127,7 +135,8 @@ pub record AddsLimiter {L : Type 0} (m : Meaning L) (partition : RetryPartition)
 -- a custom partition's limiter; for a default one the limiter that is kept under it, or this new one
 abbrev pub AnswersLimiter : {L : Type 0} → Meaning L → RetryPartition → L → ℕ → Meaning L → Type 0
 AnswersLimiter m partition limiter number n = MatchOption partition.custom
-    (MatchOption (m.limiter_of partition) (AddsLimiter m partition limiter number n) (λ known. (number ≡ known) × IsKept m n))
+    (MatchOption (m.limiter_of partition) (AddsLimiter m partition limiter number n)
+    (λ known. (number ≡ known) × IsKept m n))
     (λ numbers. (number ≡ numbers.limiter) × IsKept m n)
 
 -- the limiter of a default partition is there; of the number that a custom one brings nothing is said

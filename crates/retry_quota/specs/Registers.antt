@@ -1,5 +1,6 @@
 -- What the registry keeps.
-use Rattle.std.specs.Prelude.{◌≡◌, refl, ℕ, nat_lt, List, [], ◌∷◌, ◌++◌, MatchOption, Option, None, Some, IfSome, slice_get, length, ◌<◌}
+use Rattle.std.specs.Prelude.{◌≡◌, refl, ℕ, nat_lt, List, [], ◌∷◌, ◌++◌, MatchOption, Option, None, Some, IfSome}
+use Rattle.std.specs.Prelude.{slice_get, length, ◌<◌}
 use Rattle.std.specs.List.{All}
 use Rattle.std.specs.Option.{option_map_or}
 use Rattle.std.specs.Map.{lookup}
@@ -17,6 +18,7 @@ pub record Registers (L : Type 0) : Type 0 where
   pub bucket_names : List (RetryPartition × ℕ)
   pub limiter_names : List (RetryPartition × ℕ)
 
+-- what a registry means: it tells the books of all its buckets, and no steps
 abbrev pub meaning_of : {L : Type 0} → Registers L → Meaning L
 meaning_of r = record {
   has = λ bucket. nat_lt bucket (length r.books);
@@ -51,7 +53,8 @@ told_books r = record {
 
 -- a custom partition has got its numbers: one that was asked for is taken as it is, and where none was, a default
 -- bucket or a zero limiter is added
-pub record GivesNumbers {L : Type 0} (zero : L) (old : Registers L) (asked_bucket asked_limiter : Option ℕ) (numbers : CustomPartition) (new : Registers L) : Type 0 where
+pub record GivesNumbers {L : Type 0} (zero : L) (old : Registers L) (asked_bucket asked_limiter : Option ℕ)
+    (numbers : CustomPartition) (new : Registers L) : Type 0 where
   pub bucket : MatchOption asked_bucket
       ((numbers.bucket ≡ length old.books) × (new.books ≡ old.books ++ plain_book 500 ∷ []))
       (λ asked. (numbers.bucket ≡ asked) × (new.books ≡ old.books))

@@ -1,11 +1,13 @@
 -- A book as its terms and its changing numbers.
 use Rattle.std.specs.Prelude.{ℕ}
 use Rattle.smithy_types.specs.declared.kinds.ErrorKind.{ErrorKind}
-use Rattle.smithy_types.specs.declared.kinds.ErrorKind.TheVariants.{TransientError, ThrottlingError, ServerError, ClientError}
+use Rattle.smithy_types.specs.declared.kinds.ErrorKind.TheVariants.{TransientError, ThrottlingError, ServerError}
+use Rattle.smithy_types.specs.declared.kinds.ErrorKind.TheVariants.{ClientError}
 use Rattle.retry_quota.specs.declared.state.BucketTerms.{BucketTerms}
 use Rattle.retry_quota.specs.declared.state.BucketState.{BucketState}
 use Rattle.retry_quota.specs.Book.{Book}
 
+-- the book of a bucket that has these terms and these changing numbers
 abbrev pub book_from : BucketTerms → BucketState → Book
 book_from t s = record {
   capacity = t.capacity;
@@ -22,6 +24,7 @@ book_from t s = record {
   last_second = s.last_refill_secs;
 }
 
+-- the terms of a book, as a bucket has them
 abbrev pub terms_in : Book → BucketTerms
 terms_in b = record {
   capacity = b.capacity;
@@ -32,6 +35,7 @@ terms_in b = record {
   refill_rate = b.rate;
 }
 
+-- the changing numbers of a book, as a bucket has them
 abbrev pub state_in : Book → BucketState
 state_in b = record {
   granted = b.granted;

@@ -11,4 +11,5 @@ exchanged found new words = if pointwise nat_eq words found then new else words
 
 -- the words after a step of the book that was found
 abbrev pub stepped : Step → View → List ℕ → List ℕ
-stepped step v found = words_of (after step (book_in (terms_at v) found)) (slice_index found 6 + 1) (slice_index found 7)
+stepped step v found =
+    words_of (after step (book_in (terms_at v) found)) (slice_index found 6 + 1) (slice_index found 7)

@@ -1,5 +1,7 @@
--- The rule of the cell: there is one legal history, whose beginnings the passes have seen, and in which each call is of one pass.
-use Rattle.std.specs.Prelude.{◌≡◌, ◌≢◌, ℕ, ◌+◌, ◌-◌, ◌≤◌, ◌==◌, ◌⊎◌, nat_lt, nat_le, if◌then◌else◌, List, [], ◌∷◌, ◌++◌, length, slice_index}
+-- The rule of the cell: there is one legal history, whose beginnings the passes have seen,
+-- and in which each call is of one pass.
+use Rattle.std.specs.Prelude.{◌≡◌, ◌≢◌, ℕ, ◌+◌, ◌-◌, ◌≤◌, ◌==◌, ◌⊎◌, nat_lt, nat_le, if◌then◌else◌, List, [], ◌∷◌, ◌++◌}
+use Rattle.std.specs.Prelude.{length, slice_index}
 use mathlib.Core.Option.{some}
 use mathlib.Core.List.{IsPrefix}
 use lib.ListN.{get_elem?}
@@ -10,6 +12,7 @@ use Rattle.retry_quota.specs.Book.{Book, IsSound, plain_book}
 use Rattle.retry_quota.specs.State.{book_from, terms_in}
 use Rattle.retry_quota.specs.History.{Step, Reply, Entry, after, reply_to, IsLegal, end_of}
 
+-- stands for an opening where there is none
 abbrev pub no_opening : Opening
 no_opening = record { book = plain_book 0; callers = 0 }
 
@@ -29,6 +32,7 @@ opened o = record { stage = Live; opening = o; seen = []; olds = []; places = []
 abbrev pub told : View → View
 told v = record { stage = v.stage; opening = v.opening; seen = v.seen; olds = []; places = []; parts = 0 }
 
+-- of two histories the one that shows more
 abbrev pub longer : List Entry → List Entry → List Entry
 longer xs ys = if nat_le (length ys) (length xs) then xs else ys
 
@@ -45,15 +49,38 @@ united v w = record {
 
 -- the view once it has seen this history
 abbrev pub looked : View → List Entry → View
-looked v log = record { stage = v.stage; opening = v.opening; seen = log; olds = v.olds; places = v.places; parts = v.parts }
+looked v log = record {
+  stage = v.stage;
+  opening = v.opening;
+  seen = log;
+  olds = v.olds;
+  places = v.places;
+  parts = v.parts;
+}
 
 -- the view once it has seen this history, of which this place is its own
 abbrev pub entered : View → List Entry → ℕ → View
-entered v log place = record { stage = v.stage; opening = v.opening; seen = log; olds = v.olds; places = v.places ++ place ∷ []; parts = v.parts }
+entered v log place = record {
+  stage = v.stage;
+  opening = v.opening;
+  seen = log;
+  olds = v.olds;
+  places = v.places ++ place ∷ [];
+  parts = v.parts;
+}
 
+-- the view with so many parts, and else as it was
 abbrev pub with_parts : View → ℕ → View
-with_parts v n = record { stage = v.stage; opening = v.opening; seen = v.seen; olds = v.olds; places = v.places; parts = n }
+with_parts v n = record {
+  stage = v.stage;
+  opening = v.opening;
+  seen = v.seen;
+  olds = v.olds;
+  places = v.places;
+  parts = n;
+}
 
+-- a step with its reply, as a history has it
 abbrev pub entry : Step → Reply → Entry
 entry step reply = record { step = step; reply = reply }
 
@@ -65,7 +92,8 @@ words_of b count pool =
 -- the words with another pool
 abbrev pub with_pool : List ℕ → ℕ → List ℕ
 with_pool words pool =
-    slice_index words 0 ∷ slice_index words 1 ∷ slice_index words 2 ∷ slice_index words 3 ∷ slice_index words 4 ∷ slice_index words 5 ∷ slice_index words 6 ∷ pool ∷ []
+    slice_index words 0 ∷ slice_index words 1 ∷ slice_index words 2 ∷ slice_index words 3 ∷ slice_index words 4
+    ∷ slice_index words 5 ∷ slice_index words 6 ∷ pool ∷ []
 
 -- the changing numbers that the words have
 abbrev pub state_of : List ℕ → BucketState
@@ -86,6 +114,7 @@ book_in terms words = book_from terms (state_of words)
 abbrev pub terms_at : View → BucketTerms
 terms_at v = terms_in v.opening.book
 
+-- the sum of a number over all views
 abbrev pub total : (View → ℕ) → List View → ℕ
 total f [] = 0
 total f (v ∷ vs) = f v + total f vs
@@ -128,6 +157,7 @@ pub record Opened (words : List ℕ) (views : List View) : Type 0 where
   pub placed : (n : ℕ) → total (λ v. times n v.places) views ≡ below n (length log)
   pub shared : pool + total (λ v. v.parts) views ≡ opening.callers
 
+-- what always holds of the cell: it is new, or it was opened and the rule holds
 abbrev pub Kept : List ℕ → List View → Type 0
 Kept words views = (views ≡ newcomer ∷ []) ⊎ Opened words views
 
@@ -145,10 +175,12 @@ pub record Looks (v : View) (words : List ℕ) (w : View) : Type 0 where
   pub words_are : (pool : ℕ) × (words ≡ words_of (end_of v.opening.book w.seen) (length w.seen) pool)
   pub whole : v.parts ≡ v.opening.callers → AreAll v.places w.seen
 
+-- a load of the words is a look: the pass has seen the history so far
 abbrev pub Loaded : View → List ℕ → List ℕ → View → Type 0
 Loaded v before after w = Looks v before w
 
--- the pass made this call after all that it and those that it joined had seen, and the reply is the one of the book there
+-- the pass made this call after all that it and those that it joined had seen,
+-- and the reply is the one of the book there
 pub record Adds (step : Step) (v : View) (reply : Reply) (w : View) : Type 0 where
   pub before : List Entry
   pub grown : IsPrefix v.seen before
@@ -159,13 +191,19 @@ pub record Adds (step : Step) (v : View) (reply : Reply) (w : View) : Type 0 whe
 
 -- an exchange: nothing was written, and the history so far was seen, or the call was made
 abbrev pub Made : Step → View → List ℕ → List ℕ → View → Type 0
-Made step v before after w = ((after ≡ before) × Looks v before w) ⊎ ((slice_index after 6 ≡ slice_index before 6 + 1) × Adds step v (reply_to step (book_in (terms_at v) before)) w)
+Made step v before after w =
+    ((after ≡ before) × Looks v before w)
+    ⊎ ((slice_index after 6 ≡ slice_index before 6 + 1) × Adds step v (reply_to step (book_in (terms_at v) before)) w)
 
+-- a part of the pass goes into the pool, or nothing was written
 abbrev pub PutsOut : View → List ℕ → List ℕ → View → Type 0
-PutsOut v before after w = ((after ≡ before) × (w ≡ v)) ⊎ ((slice_index after 7 ≡ slice_index before 7 + 1) × (w ≡ with_parts v (v.parts - 1)))
+PutsOut v before after w =
+    ((after ≡ before) × (w ≡ v)) ⊎ ((slice_index after 7 ≡ slice_index before 7 + 1) × (w ≡ with_parts v (v.parts - 1)))
 
+-- a part comes from the pool to the pass, or nothing was written
 abbrev pub TakesIn : View → List ℕ → List ℕ → View → Type 0
-TakesIn v before after w = ((after ≡ before) × (w ≡ v)) ⊎ ((slice_index after 7 + 1 ≡ slice_index before 7) × (w ≡ with_parts v (v.parts + 1)))
+TakesIn v before after w =
+    ((after ≡ before) × (w ≡ v)) ⊎ ((slice_index after 7 + 1 ≡ slice_index before 7) × (w ≡ with_parts v (v.parts + 1)))
 
 -- the pass learns only that its parts are no more than there are callers
 abbrev pub Counted : View → List ℕ → List ℕ → View → Type 0

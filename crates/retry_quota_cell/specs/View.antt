@@ -14,6 +14,7 @@ pub data Stage : Type 0 where
   Live : Stage
   Spent : Stage
 
+-- what a pass knows of its bucket
 pub record View : Type 0 where
   pub stage : Stage
   pub opening : Opening

@@ -8,6 +8,7 @@ use Rattle.retry_quota.specs.Book.{Book}
 use Rattle.retry_quota.specs.State.{book_from, cost_under}
 use Rattle.retry_quota.specs.Meaning.{Meaning}
 
+-- what one handle has of a shared bucket, and the terms that it charges by
 pub record Stake : Type 0 where
   -- how many parts of the ledger, of which each handle has one at least
   pub parts : ℕ

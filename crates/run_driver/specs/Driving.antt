@@ -11,7 +11,8 @@ use Rattle.orchestrate.specs.Stands.{Progress, RunLost, Stands}
 -- a run that made some calls has made so many more, by which the log grew
 abbrev pub Advances : Invocation → Invocation → List Entry → List Entry → ℕ → Type 0
 Advances old new log more calls =
-    (p : Payload) (stop : StopPoint) (before : List Entry) (n : ℕ) → Progress p stop old before log n → Progress p stop new before more (n + calls)
+    (p : Payload) (stop : StopPoint) (before : List Entry) (n : ℕ) → Progress p stop old before log n →
+    Progress p stop new before more (n + calls)
 
 -- the run is whole
 abbrev pub IsDone : Invocation → Type 0
@@ -21,4 +22,5 @@ IsDone v = (s : State) (l : List Entry) → Stands s l v → IsWhole v.stop s l
 -- a run, or ends with the question that had no memory
 abbrev pub IsInterrupted : Invocation → List Entry → List Entry → ℕ → Type 0
 IsInterrupted old log more fuel =
-    (p : Payload) (stop : StopPoint) (before : List Entry) (n : ℕ) → Progress p stop old before log n → RunLost p stop (n + fuel) before more
+    (p : Payload) (stop : StopPoint) (before : List Entry) (n : ℕ) → Progress p stop old before log n →
+    RunLost p stop (n + fuel) before more

@@ -9,10 +9,12 @@ use Rattle.run_grammar.specs.Entry.{kind_of}
 use Rattle.run_grammar.specs.Standing.{State}
 use Rattle.run_grammar.specs.Laws.{IsWhole}
 
+-- whether the question begins an attempt
 abbrev pub begins_attempt : Kind → Bool
 begins_attempt (kinds.Hook hooks.ReadBeforeAttempt) = true
 begins_attempt _ = false
 
+-- whether the question is one of the two completion hooks
 abbrev pub is_completion : Kind → Bool
 is_completion (kinds.Hook hooks.ModifyBeforeAttemptCompletion) = true
 is_completion (kinds.Hook hooks.ReadAfterAttempt) = true
@@ -35,8 +37,10 @@ attempts (e ∷ l) = cond (begins_attempt (kind_of e)) ((e ∷ up_to_attempt l) 
 
 -- of the two completion hooks, these entries ask each once, in order
 abbrev pub Completed : List Entry → Type 0
-Completed l = asked_of is_completion l ≡ kinds.Hook hooks.ModifyBeforeAttemptCompletion ∷ kinds.Hook hooks.ReadAfterAttempt ∷ []
+Completed l =
+    asked_of is_completion l ≡ kinds.Hook hooks.ModifyBeforeAttemptCompletion ∷ kinds.Hook hooks.ReadAfterAttempt ∷ []
 
+-- each of these attempts asks its completion hooks so
 abbrev pub EachCompleted : List (List Entry) → Type 0
 EachCompleted [] = Unit {0}
 EachCompleted (a ∷ l) = Completed a × EachCompleted l

@@ -17,12 +17,15 @@ use Rattle.run_grammar.specs.declared.answer.Answer.TheVariants as answers
 use Rattle.run_grammar.specs.declared.answer.Entry.{Entry}
 use Rattle.run_grammar.specs.Question.{kind_of_question}
 
+-- the kind of an entry's question
 abbrev pub kind_of : Entry → Kind
 kind_of e = kind_of_question e.question
 
+-- a question with its answer
 abbrev pub entry : Question → Answer → Entry
 entry q a = record { question = q; answer = a }
 
+-- whether two sleeps have one role
 abbrev pub same_role : Role → Role → Bool
 same_role roles.Operation roles.Operation = true
 same_role roles.Attempt roles.Attempt = true
@@ -41,6 +44,7 @@ can_wait kinds.Transmit = true
 can_wait kinds.Body = true
 can_wait _ = false
 
+-- whether the answer is that nothing is there yet
 abbrev pub is_pending : Answer → Bool
 is_pending answers.Pending = true
 is_pending _ = false
@@ -49,10 +53,12 @@ is_pending _ = false
 unfoldable pub pending : Entry → Bool
 pending e = cond (can_wait (kind_of e)) (is_pending e.answer) false
 
+-- whether the answer is that a sleep is over
 abbrev pub is_ready : Answer → Bool
 is_ready answers.Ready = true
 is_ready _ = false
 
+-- the entry says that a sleep is over
 unfoldable pub ready : Entry → Bool
 ready e = is_ready e.answer
 
@@ -63,15 +69,18 @@ may_be_absent (kinds.Start roles.Attempt) = true
 may_be_absent (kinds.Start roles.LongPoll) = true
 may_be_absent _ = false
 
+-- whether the question asks a deadline whether it is over
 abbrev pub is_wait_of_deadline : Kind → Bool
 is_wait_of_deadline (kinds.Wait roles.Operation) = true
 is_wait_of_deadline (kinds.Wait roles.Attempt) = true
 is_wait_of_deadline _ = false
 
+-- whether the outcome is a failure
 abbrev pub is_failed : Outcome → Bool
 is_failed (outcomes.Failed fault) = true
 is_failed (outcomes.Output payload) = false
 
+-- whether the change writes a failure as the outcome
 abbrev pub writes_failure : Option Change → Bool
 writes_failure (Some (changes.Outcome o)) = is_failed o
 writes_failure _ = false

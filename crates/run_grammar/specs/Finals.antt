@@ -12,15 +12,18 @@ use Rattle.run_grammar.specs.Standing.{State}
 use Rattle.run_grammar.specs.Laws.{IsWhole}
 use Rattle.run_grammar.specs.Attempts.{asked_of}
 
+-- whether the question is one of the two finalizers
 abbrev pub is_finalizer : Kind → Bool
 is_finalizer (kinds.Hook hooks.ModifyBeforeCompletion) = true
 is_finalizer (kinds.Hook hooks.ReadAfterExecution) = true
 is_finalizer _ = false
 
+-- whether the question asks for a configuration
 abbrev pub is_configure : Kind → Bool
 is_configure (kinds.Configure stage) = true
 is_configure _ = false
 
+-- whether the answer is the layer of a configuration
 abbrev pub is_layer : Answer → Bool
 is_layer (answers.Layer l) = true
 is_layer _ = false
@@ -36,5 +39,6 @@ Finalized l =
     (a : List Entry) × (m : Entry) × (r : Entry) × (l ≡ a ++ m ∷ r ∷ []) × (asked_of is_finalizer a ≡ [])
     × (kind_of m ≡ kinds.Hook hooks.ModifyBeforeCompletion) × (kind_of r ≡ kinds.Hook hooks.ReadAfterExecution)
 
+-- a whole run that was configured ends with the two finalizers, and asks them nowhere else
 abbrev pub FinalizersOnce : Type 0
 FinalizersOnce = (stop : StopPoint) (s : State) (l : List Entry) → IsWhole stop s l → EachConfigured l → Finalized l

@@ -31,7 +31,8 @@ arm d = Where (tests.TimeoutStands d) (Work (kinds.Start d)) Nothing
 abbrev pub armed : Role → Production → Production → Production
 armed d p after = arm d ⨟ Where (tests.HasStarted d) (Under d p after) p
 
--- (`try_attempt`, up to its stop point; orchestrator/auth.rs, `resolve_identity`; orchestrator/endpoints.rs, `orchestrate_endpoint`)
+-- (`try_attempt`, up to its stop point; orchestrator/auth.rs, `resolve_identity`;
+-- orchestrator/endpoints.rs, `orchestrate_endpoint`)
 abbrev pub opening : Production
 opening = halted (
     hook hooks.ReadBeforeAttempt
@@ -77,8 +78,12 @@ turn stop = armed roles.Attempt (InAttempt (attempt stop)) Nothing ⨟ settle �
 
 -- (`try_op`, its loop by `should_attempt_initial_request`)
 abbrev pub grant_round : Production
-grant_round = Work kinds.Initial ⨟ Where tests.Delayed (Work (kinds.Start roles.Send) ⨟ Where (tests.HasStarted roles.Send) (Work (kinds.Wait roles.Send) ⨟ Again) Nothing) Nothing
+grant_round =
+    Work kinds.Initial ⨟ Where tests.Delayed
+    (Work (kinds.Start roles.Send) ⨟ Where (tests.HasStarted roles.Send) (Work (kinds.Wait roles.Send) ⨟ Again) Nothing)
+    Nothing
 
+-- the strategy is asked until it asks for no further delay
 abbrev pub grant : Production
 grant = Rounds grant_round grant_round
 
@@ -92,9 +97,13 @@ abbrev pub round : StopPoint → Production
 round stop =
     turn stop
     ⨟ Where tests.DecidedYes (Where tests.CheckpointStands again Nothing)
-    (Where tests.DecidedNoAfter (Work (kinds.Start roles.LongPoll) ⨟ Where (tests.HasStarted roles.LongPoll) (Work (kinds.Wait roles.LongPoll)) Nothing)
+    (Where tests.DecidedNoAfter
+    (Work (kinds.Start roles.LongPoll)
+    ⨟ Where (tests.HasStarted roles.LongPoll) (Work (kinds.Wait roles.LongPoll)) Nothing)
     (Where tests.DecidedDelay
-    (Work (kinds.Start roles.Retry) ⨟ Where (tests.HasStarted roles.Retry) (Where tests.CheckpointStands (Work (kinds.Wait roles.Retry) ⨟ again) Nothing) Nothing)
+    (Work (kinds.Start roles.Retry)
+    ⨟ Where (tests.HasStarted roles.Retry)
+    (Where tests.CheckpointStands (Work (kinds.Wait roles.Retry) ⨟ again) Nothing) Nothing)
     Nothing))
 
 -- (`try_op`, its loop of attempts)
@@ -129,4 +138,6 @@ configured p =
 
 -- (`invoke_with_stop_point`)
 unfoldable pub run : StopPoint → Production
-run stop = configured (Where tests.FailureStands (arm roles.Operation ⨟ finish) (armed roles.Operation (op stop) settle ⨟ finish))
+run stop =
+    configured
+    (Where tests.FailureStands (arm roles.Operation ⨟ finish) (armed roles.Operation (op stop) settle ⨟ finish))

@@ -6,5 +6,8 @@ use Rattle.smithy_context.specs.Hooks.{seen_after}
 use Rattle.run_grammar.specs.declared.standing.Standing.{Standing}
 use Rattle.run_grammar.specs.Change.{hooked_by, hook_failed, with_view}
 
+-- a hook leaves what the next interceptor sees after it, and its failure as the outcome
 abbrev pub HookRow : Type 0
-HookRow = (h : Hook) (s : Standing) (a : HookAnswer) → hooked_by h s a ≡ hook_failed h (with_view s (seen_after h s.context.view a)) a.failure
+HookRow =
+    (h : Hook) (s : Standing) (a : HookAnswer) →
+    hooked_by h s a ≡ hook_failed h (with_view s (seen_after h s.context.view a)) a.failure

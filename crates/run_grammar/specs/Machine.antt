@@ -15,31 +15,37 @@ pub data Spot : Type 0 where
   AtAgain : Spot
   At : Kind → List Role → Production → Spot
 
+-- where a production begins that goes on with a second one
 abbrev pub then_spot : Spot → Production → Spot → Spot
 then_spot AtEnd q s = s
 then_spot AtAgain q s = AtAgain
 then_spot (At k es r) q s = At k es (r ⨟ q)
 
+-- where a further round begins
 abbrev pub fresh_spot : Spot → Production → Spot
 fresh_spot AtEnd q = AtEnd
 fresh_spot AtAgain q = AtEnd
 fresh_spot (At k es r) q = At k es (Rounds r q)
 
+-- where rounds begin
 abbrev pub round_spot : Spot → Production → Spot → Spot
 round_spot AtEnd q s = AtEnd
 round_spot AtAgain q s = fresh_spot s q
 round_spot (At k es r) q s = At k es (Rounds r q)
 
+-- where a production under a deadline begins
 abbrev pub under_spot : Role → Spot → Production → Spot
 under_spot d AtEnd q = AtEnd
 under_spot d AtAgain q = AtAgain
 under_spot d (At k es r) q = At k es (Under d r q)
 
+-- where an attempt begins
 abbrev pub within_spot : Spot → Spot
 within_spot AtEnd = AtEnd
 within_spot AtAgain = AtAgain
 within_spot (At k es r) = At k es (InAttempt r)
 
+-- where a production begins, with these deadlines armed and this state standing
 abbrev pub first : Production → List Role → State → Spot
 first Nothing ds s = AtEnd
 first Again ds s = AtAgain
@@ -55,22 +61,27 @@ pub data Rest : Type 0 where
   Left : Production → Rest
   Out : (inside : Bool) → Rest
 
+-- what is left of a cut production that goes on with a second one
 abbrev pub then_rest : Rest → Production → Rest
 then_rest (Left r) q = Left (r ⨟ q)
 then_rest (Out inside) q = Out inside
 
+-- what is left of cut rounds
 abbrev pub round_rest : Rest → Production → Rest
 round_rest (Left r) q = Left (Rounds r q)
 round_rest (Out inside) q = Out inside
 
+-- what is left under the deadline c; a cut by c itself in an attempt goes on with what follows there
 abbrev pub under_rest : Bool → Role → Rest → Production → Rest
 under_rest same c (Left r) q = Left (Under c r q)
 under_rest same c (Out inside) q = cond same (Left (cond inside q Nothing)) (Out inside)
 
+-- what is left of a cut attempt: the cut lies in an attempt
 abbrev pub within_rest : Rest → Rest
 within_rest (Left r) = Left (InAttempt r)
 within_rest (Out inside) = Out true
 
+-- what is left of a production whose question at hand is cut by the deadline d
 abbrev pub cut : Production → Role → Rest
 cut Nothing d = Out false
 cut Again d = Out false
@@ -81,6 +92,7 @@ cut (Rounds p q) d = round_rest (cut p d) q
 cut (InAttempt p) d = within_rest (cut p d)
 cut (Under c p q) d = under_rest (same_role c d) c (cut p d) q
 
+-- where the machine stands between two entries: at a run's end, nowhere in a run, or before a question
 pub data Position : Type 0 where
   Whole : Position
   Dead : Position
@@ -91,14 +103,17 @@ pub data Position : Type 0 where
   -- after Ready of the deadline
   Cutting : Kind → Role → Production → Position
 
+-- the position at which something begins so
 abbrev pub position : Spot → Position
 position AtEnd = Whole
 position AtAgain = Dead
 position (At k es r) = Asking k es r
 
+-- the position at which a production begins
 abbrev pub begin : Production → State → Position
 begin p s = position (first p [] s)
 
+-- the position after a cut that left this
 abbrev pub after_cut : Rest → State → Position
 after_cut (Left r) s = begin r s
 after_cut (Out inside) s = Dead
@@ -112,6 +127,7 @@ next (Waiting k es [] r) s e = Asking k es r
 next (Waiting k es (d ∷ ds) r) s e = cond (pending e) (Waiting k es ds r) (cond (ready e) (Cutting k d r) Dead)
 next (Cutting k d r) s e = after_cut (cut r d) s
 
+-- at the position the machine asks a question of this kind
 abbrev pub Asks : Position → Kind → Type 0
 Asks Whole k = ⊥
 Asks Dead k = ⊥
@@ -120,6 +136,7 @@ Asks (Waiting j es [] r) k = k ≡ Park
 Asks (Waiting j es (d ∷ ds) r) k = k ≡ Wait d
 Asks (Cutting j d r) k = k ≡ abandon_of j
 
+-- from the position these entries lead to a run's end
 abbrev pub Accepts : Position → State → List Entry → Type 0
 Accepts p s [] = p ≡ Whole
 Accepts p s (e ∷ l) = Asks p (kind_of e) × Accepts (next p (step s e) e) (step s e) l

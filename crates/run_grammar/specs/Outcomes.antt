@@ -9,9 +9,12 @@ use Rattle.run_grammar.specs.Laws.{IsWhole}
 
 -- at the end of a whole run without a stop point an output or a failure stands
 abbrev pub OutcomeStands : Type 0
-OutcomeStands = (p : Payload) (l : List Entry) → IsWhole stops.None (start p) l → is_some (standing (start p) l).context.context.view.outcome ≡ true
+OutcomeStands =
+    (p : Payload) (l : List Entry) → IsWhole stops.None (start p) l →
+    is_some (standing (start p) l).context.context.view.outcome ≡ true
 
 -- at the end of a whole run, to its stop point too, a request stands, or an output or a failure
 abbrev pub RequestOrOutcomeStands : Type 0
 RequestOrOutcomeStands = (stop : StopPoint) (p : Payload) (l : List Entry) → IsWhole stop (start p) l →
-    (is_some (standing (start p) l).context.context.view.request ≡ true) ⊎ (is_some (standing (start p) l).context.context.view.outcome ≡ true)
+    (is_some (standing (start p) l).context.context.view.request ≡ true)
+    ⊎ (is_some (standing (start p) l).context.context.view.outcome ≡ true)

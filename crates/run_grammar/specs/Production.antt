@@ -5,6 +5,7 @@ use Rattle.run_grammar.specs.declared.kind.Kind.{Kind}
 use Rattle.run_grammar.specs.declared.production.Test.{Test}
 
 infixr 5 ◌⨟◌
+-- which questions are asked, in which order, by the answers
 pub data Production : Type 0 where
   -- nothing
   Nothing : Production

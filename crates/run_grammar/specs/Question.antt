@@ -5,6 +5,7 @@ use Rattle.run_grammar.specs.declared.kind.Kind.TheVariants as kinds
 use Rattle.run_grammar.specs.declared.question.Question.{Question}
 use Rattle.run_grammar.specs.declared.question.Question.TheVariants as questions
 
+-- the kind of a question, without what it hands on
 abbrev pub kind_of_question : Question → Kind
 kind_of_question (questions.Configure stage settings) = kinds.Configure stage
 kind_of_question (questions.Hook hook view) = kinds.Hook hook
@@ -25,6 +26,7 @@ kind_of_question (questions.Decide settings request response outcome attempt) = 
 kind_of_question (questions.Abandon abandoned) = kinds.Abandon abandoned
 kind_of_question questions.Park = kinds.Park
 
+-- how long a sleep is asked for, where one is
 abbrev pub nanos_of : Question → Option ℕ
 nanos_of (questions.Start role nanos) = nanos
 nanos_of _ = None

@@ -19,5 +19,8 @@ FailedUnmade s =
 
 -- a Configure that is not answered Layer is the last entry of a whole list
 abbrev pub ConfigurationsEnd : Type 0
-ConfigurationsEnd = (stop : StopPoint) (p : Payload) (before : List Entry) (e : Entry) (after : List Entry) → IsWhole stop (start p) (before ++ e ∷ after) →
-    is_configure (kind_of e) ≡ true → is_layer e.answer ≡ false → (after ≡ []) × FailedUnmade (standing (start p) (before ++ e ∷ []))
+ConfigurationsEnd =
+    (stop : StopPoint) (p : Payload) (before : List Entry) (e : Entry) (after : List Entry) →
+    IsWhole stop (start p) (before ++ e ∷ after) →
+    is_configure (kind_of e) ≡ true → is_layer e.answer ≡ false →
+    (after ≡ []) × FailedUnmade (standing (start p) (before ++ e ∷ []))

@@ -28,6 +28,7 @@ pub record Said : Type 0 where
   pub kind : Kind
   pub answer : Answer
 
+-- a question of this kind, so answered
 abbrev pub said : Kind → Answer → Said
 said k a = record { kind = k; answer = a }
 
@@ -37,7 +38,8 @@ asking s [] = []
 asking s (x ∷ l) = entry (asked x.kind s) x.answer ∷ asking (step s (entry (asked x.kind s) x.answer)) l
 
 -- from this input they are one whole run of so many calls, at whose end this outcome stands
-pub record Comes (stop : StopPoint) (input : Payload) (l : List Said) (calls : ℕ) (outcome : Option Outcome) : Type 0 where
+pub record Comes (stop : StopPoint) (input : Payload) (l : List Said) (calls : ℕ)
+    (outcome : Option Outcome) : Type 0 where
   pub whole : IsWhole stop (start input) (asking (start input) l)
   pub counted : length l ≡ calls
   pub left : (standing (start input) (asking (start input) l)).context.context.view.outcome ≡ outcome
@@ -58,13 +60,20 @@ pub record Parts : Type 0 where
 
 -- ---- stretches of calls
 
+-- a hook that changes nothing, sets nothing and doesn't fail
 abbrev pub quiet : Hook → Said
 quiet h = said (kinds.Hook h) (answers.Hooked (record { change = None; settings = []; failure = None }))
 
 -- a layer that sets the operation's timeout and the attempt's
 abbrev pub deadlines : Option ℕ → Option ℕ → List LayerEntry
-deadlines o a = record { key = keys.Timeouts; value = Some (settings.Timeouts (record { connect = None; read = None; operation = o; attempt = a })) } ∷ []
+deadlines o a =
+    record {
+      key = keys.Timeouts;
+      value = Some (settings.Timeouts (record { connect = None; read = None; operation = o; attempt = a }));
+    }
+    ∷ []
 
+-- the configuration, in which the client sets this layer
 abbrev pub config_calls : List LayerEntry → List Said
 config_calls l =
     said (kinds.Configure stages.Client) (answers.Layer l)
@@ -74,6 +83,7 @@ config_calls l =
     ∷ said (kinds.Configure stages.Final) (answers.Layer [])
     ∷ []
 
+-- from the serialization, which gives this request, up to the loop of attempts
 abbrev pub front_calls : HttpRequest → List Said
 front_calls r =
     quiet hooks.ModifyBeforeSerialization
@@ -83,13 +93,16 @@ front_calls r =
     ∷ quiet hooks.ModifyBeforeRetryLoop
     ∷ []
 
+-- the strategy lets the attempt go
 abbrev pub go : Said
 go = said kinds.Initial answers.Go
 
+-- an attempt up to its transmission
 abbrev pub open_calls : Parts → List Said
 open_calls p =
     quiet hooks.ReadBeforeAttempt
-    ∷ said kinds.Choose (answers.Chosen (record { scheme = p.scheme; identity = p.identity; endpoint = None; settings = []; note = None }))
+    ∷ said kinds.Choose (answers.Chosen
+    (record { scheme = p.scheme; identity = p.identity; endpoint = None; settings = []; note = None }))
     ∷ said kinds.Endpoint (answers.Endpoint p.endpoint)
     ∷ said kinds.Apply (answers.Request p.applied)
     ∷ quiet hooks.ModifyBeforeSigning
@@ -100,6 +113,7 @@ open_calls p =
     ∷ quiet hooks.ReadBeforeTransmit
     ∷ []
 
+-- the transmission, which gives this response, with the hooks after it
 abbrev pub send_calls : HttpResponse → List Said
 send_calls r =
     said kinds.Transmit (answers.Response r)
@@ -108,6 +122,7 @@ send_calls r =
     ∷ quiet hooks.ReadBeforeDeserialization
     ∷ []
 
+-- the body is read as these bytes and deserialized to this outcome
 abbrev pub read_calls : List ℕ → Outcome → List Said
 read_calls b o =
     said kinds.Stream answers.NotStreaming
@@ -116,12 +131,15 @@ read_calls b o =
     ∷ quiet hooks.ReadAfterDeserialization
     ∷ []
 
+-- the two completion hooks of an attempt
 abbrev pub settle_calls : List Said
 settle_calls = quiet hooks.ModifyBeforeAttemptCompletion ∷ quiet hooks.ReadAfterAttempt ∷ []
 
+-- the strategy decides so on a further attempt
 abbrev pub decided : Choice → Said
 decided c = said kinds.Decide (answers.Decided c None)
 
+-- the two finalizers
 abbrev pub finish_calls : List Said
 finish_calls = quiet hooks.ModifyBeforeCompletion ∷ quiet hooks.ReadAfterExecution ∷ []
 

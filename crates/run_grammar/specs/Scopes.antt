@@ -28,6 +28,7 @@ hook_of_attempt hooks.ReadBeforeDeserialization = true
 hook_of_attempt hooks.ReadAfterDeserialization = true
 hook_of_attempt _ = false
 
+-- what a deadline can give up in an attempt
 abbrev pub abandoned_of_attempt : Abandonable → Bool
 abandoned_of_attempt abandoned.Choose = true
 abandoned_of_attempt abandoned.Endpoint = true
@@ -35,6 +36,7 @@ abandoned_of_attempt abandoned.Transmit = true
 abandoned_of_attempt abandoned.Body = true
 abandoned_of_attempt _ = false
 
+-- whether the question is one of an attempt
 abbrev pub is_of_attempt : Kind → Bool
 is_of_attempt (kinds.Hook h) = hook_of_attempt h
 is_of_attempt kinds.Choose = true
@@ -49,14 +51,17 @@ is_of_attempt (kinds.Wait roles.Attempt) = true
 is_of_attempt (kinds.Abandon x) = abandoned_of_attempt x
 is_of_attempt _ = false
 
+-- whether the question completes an attempt
 abbrev pub completes_attempt : Kind → Bool
 completes_attempt (kinds.Hook hooks.ModifyBeforeAttemptCompletion) = true
 completes_attempt _ = false
 
--- an attempt is open after the entries where one was begun last, and not one completed; was_open says so of those before
+-- an attempt is open after the entries where one was begun last, and not one completed;
+-- was_open says so of those before
 abbrev pub still_open : (was_open : Bool) → List Entry → Bool
 still_open was_open [] = was_open
-still_open was_open (e ∷ l) = still_open (cond (begins_attempt (kind_of e)) true (cond (completes_attempt (kind_of e)) false was_open)) l
+still_open was_open (e ∷ l) =
+    still_open (cond (begins_attempt (kind_of e)) true (cond (completes_attempt (kind_of e)) false was_open)) l
 
 -- the last entry that is no Wait of a deadline; last is that of those before
 abbrev pub last_asked : (last : Option Entry) → List Entry → Option Entry
@@ -65,17 +70,22 @@ last_asked last (e ∷ l) = last_asked (cond (is_wait_of_deadline (kind_of e)) l
 
 -- a gives up what is pending after the entries
 abbrev pub GivesUp : List Entry → Entry → Type 0
-GivesUp before a = (p : Entry) × (last_asked None before ≡ Some p) × (pending p ≡ true) × (kind_of a ≡ abandon_of (kind_of p))
+GivesUp before a =
+    (p : Entry) × (last_asked None before ≡ Some p) × (pending p ≡ true) × (kind_of a ≡ abandon_of (kind_of p))
 
+-- the kinds of the entries' questions
 abbrev pub kinds_of : List Entry → List Kind
 kinds_of [] = []
 kinds_of (e ∷ l) = kind_of e ∷ kinds_of l
 
+-- the two finalizers, in order
 abbrev pub the_finalizers : List Kind
 the_finalizers = kinds.Hook hooks.ModifyBeforeCompletion ∷ kinds.Hook hooks.ReadAfterExecution ∷ []
 
+-- these questions, behind the two completion hooks where an attempt was open
 abbrev pub with_completion : (was_open : Bool) → List Kind → List Kind
-with_completion was_open l = cond was_open (kinds.Hook hooks.ModifyBeforeAttemptCompletion ∷ kinds.Hook hooks.ReadAfterAttempt ∷ l) l
+with_completion was_open l =
+    cond was_open (kinds.Hook hooks.ModifyBeforeAttemptCompletion ∷ kinds.Hook hooks.ReadAfterAttempt ∷ l) l
 
 -- the Abandon, the two completion hooks, and then up to the next attempt no question of an attempt
 abbrev pub AttemptOver : List Entry → List Entry → Type 0
@@ -92,10 +102,14 @@ OperationOver before after =
 
 -- e is the Wait of the attempt's deadline, answered Ready, between these entries of a whole list
 abbrev pub AttemptScopesEnd : Type 0
-AttemptScopesEnd = (stop : StopPoint) (s : State) (before : List Entry) (e : Entry) (after : List Entry) → IsWhole stop s (before ++ e ∷ after) →
+AttemptScopesEnd =
+    (stop : StopPoint) (s : State) (before : List Entry) (e : Entry) (after : List Entry) →
+    IsWhole stop s (before ++ e ∷ after) →
     kind_of e ≡ kinds.Wait roles.Attempt → ready e ≡ true → AttemptOver before after
 
 -- the same of the operation's deadline
 abbrev pub OperationScopesEnd : Type 0
-OperationScopesEnd = (stop : StopPoint) (s : State) (before : List Entry) (e : Entry) (after : List Entry) → IsWhole stop s (before ++ e ∷ after) →
+OperationScopesEnd =
+    (stop : StopPoint) (s : State) (before : List Entry) (e : Entry) (after : List Entry) →
+    IsWhole stop s (before ++ e ∷ after) →
     kind_of e ≡ kinds.Wait roles.Operation → ready e ≡ true → OperationOver before after

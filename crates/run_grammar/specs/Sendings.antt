@@ -13,9 +13,11 @@ use Rattle.run_grammar.specs.Standing.{start}
 
 -- the question hands over a request, with settings
 abbrev pub HandsRequest : Entry → Type 0
-HandsRequest e = (settings : StandingLayers) × (request : HttpRequest) × (e.question ≡ questions.Transmit settings (Some request))
+HandsRequest e =
+    (settings : StandingLayers) × (request : HttpRequest) × (e.question ≡ questions.Transmit settings (Some request))
 
 -- each Transmit of a list that begins a run
 abbrev pub TransmitsHaveRequests : Type 0
-TransmitsHaveRequests = (stop : StopPoint) (p : Payload) (before : List Entry) (e : Entry) → Begins stop (start p) (before ++ e ∷ []) →
+TransmitsHaveRequests =
+    (stop : StopPoint) (p : Payload) (before : List Entry) (e : Entry) → Begins stop (start p) (before ++ e ∷ []) →
     kind_of e ≡ kinds.Transmit → HandsRequest e

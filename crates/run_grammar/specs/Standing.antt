@@ -12,15 +12,25 @@ use Rattle.run_grammar.specs.Question.{nanos_of}
 use Rattle.run_grammar.specs.Entry.{kind_of}
 use Rattle.run_grammar.specs.Change.{changed, nanos_for}
 
--- at a run's start the input stands, and nothing else (orchestrator.rs, `invoke_with_stop_point`: `InterceptorContext::new`)
+-- at a run's start the input stands, and nothing else (orchestrator.rs, `invoke_with_stop_point`:
+-- `InterceptorContext::new`)
 abbrev pub starting : Payload → Standing
-starting p = record { context = opened p; scheme = None; identity = None; endpoint = None; delay = None; operation_deadline = None; attempt_deadline = None }
+starting p = record {
+  context = opened p;
+  scheme = None;
+  identity = None;
+  endpoint = None;
+  delay = None;
+  operation_deadline = None;
+  attempt_deadline = None;
+}
 
 -- what stands, and the last entry
 pub record State : Type 0 where
   pub context : Standing
   pub last : Option Entry
 
+-- the state at a run's start: the input stands, and nothing was asked
 abbrev pub start : Payload → State
 start p = record { context = starting p; last = None }
 
@@ -53,10 +63,13 @@ asks kinds.Transmit s = questions.Transmit s.context.view.settings s.context.vie
 asks kinds.Stream s = questions.Stream s.context.view.settings s.context.view.response
 asks kinds.Body s = questions.Body s.context.view.settings s.context.view.response
 asks kinds.Deserialize s = questions.Deserialize s.context.view.settings s.context.view.response
-asks kinds.Decide s = questions.Decide s.context.view.settings s.context.view.request s.context.view.response s.context.view.outcome s.context.view.attempt
+asks kinds.Decide s =
+    questions.Decide s.context.view.settings s.context.view.request s.context.view.response s.context.view.outcome
+    s.context.view.attempt
 asks (kinds.Abandon x) s = questions.Abandon x
 asks kinds.Park s = questions.Park
 
+-- the question of this kind, with the parts that stand in this state
 unfoldable pub asked : Kind → State → Question
 asked k s = asks k s.context
 
@@ -73,6 +86,7 @@ on_request_way kinds.Sign = true
 on_request_way kinds.Transmit = true
 on_request_way _ = false
 
+-- the kinds that ask the strategy, choose a scheme, or read the response
 abbrev pub on_settled_way : Kind → Bool
 on_settled_way kinds.Initial = true
 on_settled_way kinds.Choose = true

@@ -24,9 +24,13 @@ last_but_arming last (e ∷ l) = last_but_arming (cond (arms_attempt (kind_of e)
 
 -- next before the attempt, but for the Start of its deadline, comes an Initial that is answered Go or No
 abbrev pub HasToken : List Entry → Type 0
-HasToken before = (i : Entry) × (last_but_arming None before ≡ Some i) × (kind_of i ≡ kinds.Initial) × (answers_go_or_no i.answer ≡ true)
+HasToken before =
+    (i : Entry) × (last_but_arming None before ≡ Some i) × (kind_of i ≡ kinds.Initial)
+    × (answers_go_or_no i.answer ≡ true)
 
 -- e begins an attempt of a whole list, where the standing Retry has a spec of version 2.1
 abbrev pub TokensStand : Type 0
-TokensStand = (stop : StopPoint) (p : Payload) (before : List Entry) (e : Entry) (after : List Entry) → IsWhole stop (start p) (before ++ e ∷ after) →
+TokensStand =
+    (stop : StopPoint) (p : Payload) (before : List Entry) (e : Entry) (after : List Entry) →
+    IsWhole stop (start p) (before ++ e ∷ after) →
     begins_attempt (kind_of e) ≡ true → token_needed (standing (start p) before) ≡ true → HasToken before

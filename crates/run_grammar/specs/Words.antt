@@ -7,7 +7,8 @@ use Rattle.run_grammar.specs.declared.answer.Entry.{Entry}
 use Rattle.run_grammar.specs.declared.kind.Kind.TheVariants.{Park, Wait}
 use Rattle.run_grammar.specs.Entry.{kind_of, pending, ready, same_role, abandon_of}
 use Rattle.run_grammar.specs.Standing.{State, standing}
-use Rattle.run_grammar.specs.Production.{Production, Nothing, Work, ◌⨟◌, Where, Rounds, Again, InAttempt, Under, End, Ended, Further, CutBy}
+use Rattle.run_grammar.specs.Production.{Production, Nothing, Work, ◌⨟◌, Where, Rounds, Again, InAttempt, Under, End}
+use Rattle.run_grammar.specs.Production.{Ended, Further, CutBy}
 
 -- Wait of each deadline answered Pending, and then Park
 abbrev pub WaitsOf : List Role → List Entry → Type 0
@@ -35,9 +36,11 @@ AfterIdles k ds last zero l = last l
 AfterIdles k ds last (suc n) l =
     (a : List Entry) × (b : List Entry) × (l ≡ a ++ b) × Idle k ds a × AfterIdles k ds last n b
 
+-- one question of this kind, with another answer than Pending
 abbrev pub Answered : Kind → List Entry → Type 0
 Answered k l = (e : Entry) × (l ≡ e ∷ []) × ((kind_of e) ≡ k) × (pending e ≡ false)
 
+-- one question of this kind that is pending, until d cuts it
 abbrev pub CutOnce : Kind → Role → List Role → List Entry → Type 0
 CutOnce k d ds [] = ⊥
 CutOnce k d ds (e ∷ l) = ((kind_of e) ≡ k) × (pending e ≡ true) × Struck k d ds l
@@ -46,24 +49,29 @@ CutOnce k d ds (e ∷ l) = ((kind_of e) ≡ k) × (pending e ≡ true) × Struck
 abbrev pub WorkOf : Kind → List Role → List Entry → Type 0
 WorkOf k ds l = (n : ℕ) × AfterIdles k ds (Answered k) n l
 
+-- the question is pending any number of times, and then d cuts it
 abbrev pub CutOf : Kind → Role → List Role → List Entry → Type 0
 CutOf k d ds l = (n : ℕ) × AfterIdles k ds (CutOnce k d ds) n l
 
+-- the word ended by Again
 abbrev pub is_further : End → Bool
 is_further Ended = false
 is_further Further = true
 is_further (CutBy d inside) = false
 
+-- the word ended by itself
 abbrev pub is_ended : End → Bool
 is_ended Ended = true
 is_ended Further = false
 is_ended (CutBy d inside) = false
 
 -- a round, and this many further rounds of the second
-abbrev pub RoundsOf : (End → State → List Entry → Type 0) → (End → State → List Entry → Type 0) → ℕ → End → State → List Entry → Type 0
+abbrev pub RoundsOf : (End → State → List Entry → Type 0) → (End → State → List Entry → Type 0) → ℕ → End → State →
+    List Entry → Type 0
 RoundsOf round further zero x s l = (is_further x ≡ false) × round x s l
 RoundsOf round further (suc n) x s l =
-    (a : List Entry) × (b : List Entry) × (l ≡ a ++ b) × round Further s a × RoundsOf further further n x (standing s a) b
+    (a : List Entry) × (b : List Entry) × (l ≡ a ++ b) × round Further s a
+    × RoundsOf further further n x (standing s a) b
 
 -- how a scope of d ends and what follows in it, where its production ended by y
 abbrev pub ScopeEnds : Role → (End → List Entry → Type 0) → End → End → List Entry → Type 0

@@ -1,5 +1,6 @@
 -- A chain of interceptors: which of them run, what they see, and what they answer together.
-use Rattle.std.specs.Prelude.{Bool, true, false, ◌&&◌, not, ℕ, nat_eq, Option, None, Some, List, [], ◌∷◌, ◌++◌, ◌≡◌, ◌⊎◌}
+use Rattle.std.specs.Prelude.{Bool, true, false, ◌&&◌, not, ℕ, nat_eq, Option, None, Some, List, [], ◌∷◌, ◌++◌, ◌≡◌}
+use Rattle.std.specs.Prelude.{◌⊎◌}
 use Rattle.std.specs.List.{list_any}
 use Rattle.std.specs.Cmp.Lexicographic.{pointwise}
 use Rattle.smithy_types.specs.declared.hook.Hook.{Hook}
@@ -42,7 +43,11 @@ all_merged l (a ∷ given) = all_merged (merged l a.settings) given
 
 -- the last change that the hook may make, the layers merged in order, and the last failure
 abbrev pub together : Hook → List HookAnswer → HookAnswer
-together h given = record { change = last_of (λ (a : HookAnswer). allowed h a.change) given; settings = all_merged [] given; failure = last_of (λ (a : HookAnswer). a.failure) given }
+together h given = record {
+  change = last_of (λ (a : HookAnswer). allowed h a.change) given;
+  settings = all_merged [] given;
+  failure = last_of (λ (a : HookAnswer). a.failure) given;
+}
 
 -- what is seen after these answers
 abbrev pub seen : Hook → HookView → List HookAnswer → HookView
@@ -51,16 +56,20 @@ seen h v (a ∷ given) = seen h (seen_after h v a) given
 
 -- ---- the walk
 
-module _ {I : Type 0} (names : I → List ℕ) (hooks : I → Hook → Bool) (runs : I → Hook → HookView → HookAnswer → I → Type 0) (h : Hook) where
+module _ {I : Type 0} (names : I → List ℕ) (hooks : I → Hook → Bool)
+    (runs : I → Hook → HookView → HookAnswer → I → Type 0) (h : Hook) where
   -- whether the interceptor is run on this view: it overrides the hook and isn't disabled
   abbrev pub is_run : HookView → I → Bool
   is_run v x = hooks x h && not (is_disabled v (names x))
 
   -- a turn on this view: an interceptor that isn't run stays as it is and answers nothing, and any other runs once
   abbrev pub Turn : HookView → I → List HookAnswer → I → Type 0
-  Turn v x given y = ((is_run v x ≡ false) × (given ≡ []) × (y ≡ x)) ⊎ ((is_run v x ≡ true) × (a : HookAnswer) × (given ≡ a ∷ []) × runs x h v a y)
+  Turn v x given y =
+      ((is_run v x ≡ false) × (given ≡ []) × (y ≡ x))
+      ⊎ ((is_run v x ≡ true) × (a : HookAnswer) × (given ≡ a ∷ []) × runs x h v a y)
 
-  -- their turns from left to right, each on what is seen after the earlier answers: all answers, and what the turns leave
+  -- their turns from left to right, each on what is seen after the earlier answers:
+  -- all answers, and what the turns leave
   abbrev pub Turns : HookView → List I → List HookAnswer → List I → Type 0
   Turns v [] given ys = (given ≡ []) × (ys ≡ [])
   Turns v (x ∷ xs) given ys =
@@ -74,4 +83,5 @@ module _ {I : Type 0} (names : I → List ℕ) (hooks : I → Hook → Bool) (ru
   -- some of the chain, from its left end on, had their turns and keep what they did, and the rest are as they were
   abbrev pub RunsInPart : HookView → List I → List I → Type 0
   RunsInPart v xs ys =
-      (front rest after : List I) × (given : List HookAnswer) × (xs ≡ front ++ rest) × (ys ≡ after ++ rest) × Turns v front given after
+      (front rest after : List I) × (given : List HookAnswer) × (xs ≡ front ++ rest) × (ys ≡ after ++ rest)
+      × Turns v front given after

@@ -12,6 +12,7 @@ abbrev pub is_before_signing : Hook → Bool
 is_before_signing hooks.ModifyBeforeSigning = true
 is_before_signing _ = false
 
+-- a hook's answer that changes nothing, sets nothing and doesn't fail
 abbrev pub no_answer : HookAnswer
 no_answer = record { change = None; settings = []; failure = None }
 

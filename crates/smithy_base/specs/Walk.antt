@@ -9,7 +9,11 @@ use Rattle.smithy_base.specs.declared.walk.Walk.{Walk}
 
 -- an answer with a later one
 abbrev pub answered_too : Hook → HookAnswer → HookAnswer → HookAnswer
-answered_too h before a = record { change = or_else (allowed h a.change) before.change; settings = merged before.settings a.settings; failure = or_else a.failure before.failure }
+answered_too h before a = record {
+  change = or_else (allowed h a.change) before.change;
+  settings = merged before.settings a.settings;
+  failure = or_else a.failure before.failure;
+}
 
 -- the walk with one more answer
 abbrev pub noted : Hook → Walk → HookAnswer → Walk

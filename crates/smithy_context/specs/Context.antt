@@ -14,13 +14,18 @@ use Rattle.smithy_types.specs.declared.kinds.Phase.TheVariants.{BeforeSerializat
 use Rattle.smithy_types.specs.declared.payload.Payload.{Payload}
 use Rattle.smithy_context.specs.Settings.{no_layers}
 
+-- a context with this view in this phase, before any checkpoint and any rewind
 abbrev pub view_of : HookView → Phase → InterceptorContext
 view_of v p = record { view = v; phase = p; checkpoint = None; tainted = false }
 
 -- the input stands, and nothing else
 abbrev pub opened : Payload → InterceptorContext
-opened p = view_of (record { input = Some p; request = None; response = None; outcome = None; attempt = 0; settings = no_layers }) BeforeSerialization
+opened p =
+    view_of
+    (record { input = Some p; request = None; response = None; outcome = None; attempt = 0; settings = no_layers })
+    BeforeSerialization
 
+-- the context with this failure as its outcome
 abbrev pub failed_with : InterceptorContext → Fault → InterceptorContext
 failed_with c f = record c { view = record c.view { outcome = Some (Failed f) } }
 
@@ -29,18 +34,22 @@ abbrev pub copyable_body : Body → HttpRequest → Option HttpRequest
 copyable_body (Bytes b) r = Some r
 copyable_body _ r = None
 
+-- the request that a checkpoint keeps: none where no request stands, or where its body can't be copied
 abbrev pub copyable : Option HttpRequest → Option HttpRequest
 copyable None = None
 copyable (Some r) = copyable_body r.body r
 
+-- the request as it stands is kept for later attempts, where it can be copied
 abbrev pub checkpointed : InterceptorContext → InterceptorContext
 checkpointed c = record c { checkpoint = copyable c.view.request }
 
 -- the checkpoint's request, no response, no outcome
 abbrev pub restored_to : Option HttpRequest → InterceptorContext → InterceptorContext
 restored_to None c = c
-restored_to (Some r) c = record c { view = record c.view { request = Some r; response = None; outcome = None }; phase = BeforeTransmit }
+restored_to (Some r) c =
+    record c { view = record c.view { request = Some r; response = None; outcome = None }; phase = BeforeTransmit }
 
+-- the context as its checkpoint has it for a further attempt; without a checkpoint it stays
 abbrev pub restored : InterceptorContext → InterceptorContext
 restored c = restored_to c.checkpoint c
 

@@ -8,20 +8,24 @@ use Rattle.smithy_context.specs.declared.intercept.HookAnswer.{HookAnswer}
 use Rattle.smithy_context.specs.declared.intercept.HookView.{HookView}
 use Rattle.smithy_context.specs.Settings.{with_merged}
 
+-- the one hook that may write the input
 abbrev pub writes_input : Hook → Bool
 writes_input hooks.ModifyBeforeSerialization = true
 writes_input _ = false
 
+-- the hooks that may write the request
 abbrev pub writes_request : Hook → Bool
 writes_request hooks.ModifyBeforeRetryLoop = true
 writes_request hooks.ModifyBeforeSigning = true
 writes_request hooks.ModifyBeforeTransmit = true
 writes_request _ = false
 
+-- the one hook that may write the response
 abbrev pub writes_response : Hook → Bool
 writes_response hooks.ModifyBeforeDeserialization = true
 writes_response _ = false
 
+-- the hooks that may write the outcome
 abbrev pub writes_outcome : Hook → Bool
 writes_outcome hooks.ModifyBeforeAttemptCompletion = true
 writes_outcome hooks.ModifyBeforeCompletion = true

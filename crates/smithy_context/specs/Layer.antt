@@ -1,13 +1,16 @@
 -- What a layer says of a key, and what it says after a change.
-use Rattle.std.specs.Prelude.{Bool, true, false, cond, Option, Some, None, is_none, List, [], ◌∷◌, ◌++◌, ℕ, find, position, option_map, slice_set}
+use Rattle.std.specs.Prelude.{Bool, true, false, cond, Option, Some, None, is_none, List, [], ◌∷◌, ◌++◌, ℕ, find}
+use Rattle.std.specs.Prelude.{position, option_map, slice_set}
 use Rattle.smithy_context.specs.declared.setting.Setting.{Setting}
 use Rattle.smithy_context.specs.declared.setting.SettingKey.{SettingKey}
 use Rattle.smithy_context.specs.declared.layer.LayerEntry.{LayerEntry}
 use Rattle.smithy_context.specs.Setting.{same_key}
 
+-- a key with its value, or with the word that it is unset
 abbrev pub entry : SettingKey → Option Setting → LayerEntry
 entry k v = record { key = k; value = v }
 
+-- whether the entry is the key's
 abbrev pub is_at : SettingKey → LayerEntry → Bool
 is_at k e = same_key e.key k
 
@@ -29,6 +32,7 @@ abbrev pub placed : Option ℕ → List LayerEntry → LayerEntry → List Layer
 placed None l e = l ++ e ∷ []
 placed (Some i) l e = slice_set l i e
 
+-- the layer once the entry's key is set or unset as it says
 abbrev pub put_entry : List LayerEntry → LayerEntry → List LayerEntry
 put_entry l e = placed (position (is_at e.key) l) l e
 

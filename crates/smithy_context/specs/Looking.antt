@@ -10,7 +10,9 @@ use Rattle.smithy_context.specs.StandingLayers.{StandingLayers}
 
 -- the key has this entry, and every other key what it had
 abbrev pub PutsOne : Type 0
-PutsOne = (l : List LayerEntry) (e : LayerEntry) (k : SettingKey) → entry_at (put_entry l e) k ≡ cond (same_key e.key k) (Some e) (entry_at l k)
+PutsOne =
+    (l : List LayerEntry) (e : LayerEntry) (k : SettingKey) →
+    entry_at (put_entry l e) k ≡ cond (same_key e.key k) (Some e) (entry_at l k)
 
 -- where no key stands twice, none does after a put
 abbrev pub KeepsKeysOnce : Type 0
@@ -18,15 +20,19 @@ KeepsKeysOnce = (l : List LayerEntry) (e : LayerEntry) → keys_once l ≡ true 
 
 -- each key that the second layer mentions stands as it says there, and every other key as it stood
 abbrev pub MergesOver : Type 0
-MergesOver = (l m : List LayerEntry) (k : SettingKey) → keys_once m ≡ true → entry_at (merged l m) k ≡ or_else (entry_at m k) (entry_at l k)
+MergesOver =
+    (l m : List LayerEntry) (k : SettingKey) → keys_once m ≡ true →
+    entry_at (merged l m) k ≡ or_else (entry_at m k) (entry_at l k)
 
+-- the value in an entry; none where no entry stands, or where it says that the key is unset
 abbrev pub value_in : Option LayerEntry → Option Setting
 value_in e = option_and_then (λ (x : LayerEntry). x.value) e
 
 -- a merged layer is asked before all that stood
 abbrev pub MergedComesFirst : Type 0
 MergedComesFirst = (s : StandingLayers) (l : List LayerEntry) (k : SettingKey) → keys_once l ≡ true →
-    loaded (with_merged s l) k ≡ value_in (or_else (entry_at l k) (or_else (entry_at s.state k) (last_entry s.pushed k)))
+    loaded (with_merged s l) k
+    ≡ value_in (or_else (entry_at l k) (or_else (entry_at s.state k) (last_entry s.pushed k)))
 
 -- a pushed layer is asked after the state layer, and before the layers that were pushed earlier
 abbrev pub PushedComesSecond : Type 0

@@ -6,6 +6,7 @@ use Rattle.smithy_context.specs.declared.setting.Setting.TheVariants as settings
 use Rattle.smithy_context.specs.declared.setting.SettingKey.{SettingKey}
 use Rattle.smithy_context.specs.declared.setting.SettingKey.TheVariants as keys
 
+-- the key under which a setting is stored and loaded
 abbrev pub key_of : Setting → SettingKey
 key_of (settings.Timeouts value) = keys.Timeouts
 key_of (settings.Retry value) = keys.Retry
@@ -25,6 +26,7 @@ key_of (settings.Poisoned value) = keys.Poisoned
 key_of settings.Upload = keys.Upload
 key_of (settings.User name value) = keys.User name
 
+-- whether two keys are one; the caller's own keys are told apart by their names
 abbrev pub same_key : SettingKey → SettingKey → Bool
 same_key keys.Timeouts keys.Timeouts = true
 same_key keys.Retry keys.Retry = true

@@ -6,15 +6,19 @@ use Rattle.smithy_context.specs.declared.layer.LayerEntry.{LayerEntry}
 use Rattle.smithy_context.specs.Layer.{entry_at, merged}
 use Rattle.smithy_context.specs.StandingLayers.{StandingLayers}
 
+-- settings before anything is set
 abbrev pub no_layers : StandingLayers
 no_layers = record { pushed = []; state = [] }
 
+-- the settings with a layer pushed above the earlier ones
 abbrev pub with_layer : StandingLayers → List LayerEntry → StandingLayers
 with_layer s l = record { pushed = s.pushed ++ l ∷ []; state = s.state }
 
+-- the settings with a layer merged into the state layer
 abbrev pub with_merged : StandingLayers → List LayerEntry → StandingLayers
 with_merged s l = record { pushed = s.pushed; state = merged s.state l }
 
+-- the first where there is one, else the second
 abbrev pub or_else : {T : Type 0} → Option T → Option T → Option T
 or_else None other = other
 or_else (Some x) other = Some x

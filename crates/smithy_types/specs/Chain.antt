@@ -7,7 +7,8 @@ Chained makes old [] new = new ≡ old
 Chained {T} makes old (call ∷ calls) new = (mid : T) × makes old call mid × Chained makes mid calls new
 
 -- some calls of this form were made, and no others
-pub record ByCalls {T C : Type 0} (makes : T → C → T → Type 0) (old : T) (are : List C → Type 0) (new : T) : Type 0 where
+pub record ByCalls {T C : Type 0} (makes : T → C → T → Type 0) (old : T) (are : List C → Type 0)
+    (new : T) : Type 0 where
   pub calls : List C
   pub these : are calls
   pub made : Chained makes old calls new

@@ -9,6 +9,7 @@ use Rattle.http_header.specs.FieldValue.{FieldValue}
 abbrev pub HeaderList : Type 0
 HeaderList = Entries FieldValue
 
+-- the header list of a request or a response: it is empty until a header makes the map
 abbrev pub headers_of : Option (Arc HeaderList Global) → HeaderList
 headers_of None = []
 headers_of (Some shared) = shared.value

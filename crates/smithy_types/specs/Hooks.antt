@@ -28,4 +28,11 @@ hook_text hooks.ReadAfterExecution = codes "read_after_execution"
 
 -- each hook, in the order in which a run without a retry calls them
 abbrev pub all_hooks : List Hook
-all_hooks = hooks.ReadBeforeExecutionClient ∷ hooks.ReadBeforeExecutionOperation ∷ hooks.ModifyBeforeSerialization ∷ hooks.ReadBeforeSerialization ∷ hooks.ReadAfterSerialization ∷ hooks.ModifyBeforeRetryLoop ∷ hooks.ReadBeforeAttempt ∷ hooks.ModifyBeforeSigning ∷ hooks.ReadBeforeSigning ∷ hooks.ReadAfterSigning ∷ hooks.ModifyBeforeTransmit ∷ hooks.ReadBeforeTransmit ∷ hooks.ReadAfterTransmit ∷ hooks.ModifyBeforeDeserialization ∷ hooks.ReadBeforeDeserialization ∷ hooks.ReadAfterDeserialization ∷ hooks.ModifyBeforeAttemptCompletion ∷ hooks.ReadAfterAttempt ∷ hooks.ModifyBeforeCompletion ∷ hooks.ReadAfterExecution ∷ []
+all_hooks =
+    hooks.ReadBeforeExecutionClient ∷ hooks.ReadBeforeExecutionOperation ∷ hooks.ModifyBeforeSerialization
+    ∷ hooks.ReadBeforeSerialization ∷ hooks.ReadAfterSerialization ∷ hooks.ModifyBeforeRetryLoop
+    ∷ hooks.ReadBeforeAttempt ∷ hooks.ModifyBeforeSigning ∷ hooks.ReadBeforeSigning ∷ hooks.ReadAfterSigning
+    ∷ hooks.ModifyBeforeTransmit ∷ hooks.ReadBeforeTransmit ∷ hooks.ReadAfterTransmit
+    ∷ hooks.ModifyBeforeDeserialization ∷ hooks.ReadBeforeDeserialization ∷ hooks.ReadAfterDeserialization
+    ∷ hooks.ModifyBeforeAttemptCompletion ∷ hooks.ReadAfterAttempt ∷ hooks.ModifyBeforeCompletion
+    ∷ hooks.ReadAfterExecution ∷ []

@@ -6,10 +6,15 @@ use Rattle.stream_guard.specs.declared.bin.Bin.{Bin}
 use Rattle.stream_guard.specs.declared.report.ThroughputReport.{ThroughputReport}
 use Rattle.stream_guard.specs.declared.report.ThroughputReport.TheVariants as report
 
+-- what ten bins say: the rate, where bytes came; else what at least five of them show
 abbrev pub judged_bins : ℕ → List Bin → ThroughputReport
 judged_bins resolution bins =
     if list_any (λ b. is_transferred b.label) bins then
-    report.Transferred (record { bytes_read = fold (λ sum b. min (sum + b.bytes) most_bytes) 0 bins; per_time_elapsed = 10 * resolution })
+    report.Transferred
+    (record {
+      bytes_read = fold (λ sum b. min (sum + b.bytes) most_bytes) 0 bins;
+      per_time_elapsed = 10 * resolution;
+    })
     else if nat_le 5 (count_by (λ b. is_no_polling b.label) bins) then report.NoPolling
     else if nat_le 5 (count_by (λ b. is_pending b.label) bins) then report.Pending
     else report.Incomplete

@@ -1,6 +1,7 @@
 -- A log as its callers see it, and which events and looks it keeps.
 use Rattle.std.specs.List.{list_any}
-use Rattle.std.specs.Prelude.{◌≡◌, ℕ, ◌-◌, ◌<◌, ◌≤◌, ◌==◌, min, max, ◌||◌, nat_lt, if◌then◌else◌, Bool, false, List, replicate}
+use Rattle.std.specs.Prelude.{◌≡◌, ℕ, ◌-◌, ◌<◌, ◌≤◌, ◌==◌, min, max, ◌||◌, nat_lt, if◌then◌else◌, Bool, false, List}
+use Rattle.std.specs.Prelude.{replicate}
 use Rattle.stream_guard.specs.Bin.{most_bytes, no_polling, back, merged, Shifted}
 use Rattle.stream_guard.specs.Report.{Came, Placed, own_bin, latest_from, placed_from, label_in, bytes_in}
 use Rattle.stream_guard.specs.Judged.{judged_bins}
@@ -8,6 +9,7 @@ use Rattle.stream_guard.specs.declared.bin.Bin.{Bin}
 use Rattle.stream_guard.specs.declared.report.ThroughputReport.{ThroughputReport}
 use Rattle.stream_guard.specs.declared.report.ThroughputReport.TheVariants as report
 
+-- a log of throughput: its settings, and what it shows of the last ten bins
 pub record Log : Type 0 where
   pub start : ℕ
   -- how long a bin is
@@ -20,9 +22,18 @@ pub record Log : Type 0 where
   -- the last ten bins, the latest last
   pub bins : List Bin
 
+-- a new log, to which nothing came yet
 abbrev pub empty_log : ℕ → ℕ → Log
-empty_log start resolution = record { start = start; resolution = resolution; complete = false; latest = 0; early = false; bins = replicate 10 no_polling }
+empty_log start resolution = record {
+  start = start;
+  resolution = resolution;
+  complete = false;
+  latest = 0;
+  early = false;
+  bins = replicate 10 no_polling;
+}
 
+-- a bin with what these events make of it
 abbrev pub bin_in : List Placed → ℕ → Bin
 bin_in placed bin = record { label = label_in placed bin; bytes = min (bytes_in placed bin) most_bytes }
 
@@ -32,8 +43,10 @@ pub record KeepsPlaced (log : Log) (placed : List Placed) (last : ℕ) : Type 0 
   pub early : log.early ≡ list_any (λ p. p.bin == 0) placed
   pub bins : (k : ℕ) → k < 10 → k ≤ last → back k log.bins ≡ bin_in placed (last - k)
 
+-- the log shows all that came to it
 abbrev pub Keeps : Log → List Came → Type 0
-Keeps log came = KeepsPlaced log (placed_from log.start log.resolution 0 came) (latest_from log.start log.resolution 0 came)
+Keeps log came =
+    KeepsPlaced log (placed_from log.start log.resolution 0 came) (latest_from log.start log.resolution 0 came)
 
 -- what only new and mark_complete set
 pub record SameSettings (old new : Log) : Type 0 where

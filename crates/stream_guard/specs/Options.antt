@@ -14,4 +14,8 @@ unset = record { minimum_throughput = None; grace_period = None }
 
 -- what was set, and the default of each other part
 abbrev pub built : MinimumThroughputBodyOptionsBuilder → MinimumThroughputBodyOptions
-built b = record { minimum_throughput = unwrap_or b.minimum_throughput default_options.minimum_throughput; grace_period = unwrap_or b.grace_period default_options.grace_period; check_window = default_options.check_window }
+built b = record {
+  minimum_throughput = unwrap_or b.minimum_throughput default_options.minimum_throughput;
+  grace_period = unwrap_or b.grace_period default_options.grace_period;
+  check_window = default_options.check_window;
+}

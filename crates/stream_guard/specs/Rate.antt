@@ -13,6 +13,7 @@ per_second bytes = record { bytes_read = bytes; per_time_elapsed = 1000000000 }
 abbrev pub fraction_bytes : Throughput → ℕ
 fraction_bytes t = if t.per_time_elapsed == 0 then 0 else t.bytes_read
 
+-- the ns of that fraction: 1 where the rate is over no time
 abbrev pub fraction_nanos : Throughput → ℕ
 fraction_nanos t = if t.per_time_elapsed == 0 then 1 else t.per_time_elapsed
 
@@ -22,7 +23,9 @@ rate_cmp x y = nat_cmp (fraction_bytes x * fraction_nanos y) (fraction_bytes y *
 
 -- thousandths of a byte per second, rounded to the nearest, and a half up
 abbrev pub thousandths_of : Throughput → ℕ
-thousandths_of t = if t.per_time_elapsed == 0 then 0 else (2 * t.bytes_read * 1000000000000 + t.per_time_elapsed) / (2 * t.per_time_elapsed)
+thousandths_of t =
+    if t.per_time_elapsed == 0 then 0
+    else (2 * t.bytes_read * 1000000000000 + t.per_time_elapsed) / (2 * t.per_time_elapsed)
 
 -- up to three digits behind a point, without final zeros
 abbrev pub decimals : ℕ → ℕ → ℕ → List ℕ
@@ -32,5 +35,7 @@ decimals tenths hundredths rest =
     else codes "." ++ decimal tenths ++ decimal hundredths)
     else codes "." ++ decimal tenths ++ decimal hundredths ++ decimal rest
 
+-- a rate as texts show it, in bytes per second
 abbrev pub rate_text : Throughput → List ℕ
-rate_text t = let n = thousandths_of t in decimal (n / 1000) ++ decimals (n / 100 % 10) (n / 10 % 10) (n % 10) ++ codes " B/s"
+rate_text t =
+    let n = thousandths_of t in decimal (n / 1000) ++ decimals (n / 100 % 10) (n / 10 % 10) (n % 10) ++ codes " B/s"

@@ -6,6 +6,7 @@ use Rattle.stream_guard.specs.declared.report.ThroughputReport.{ThroughputReport
 use Rattle.stream_guard.specs.declared.report.ThroughputReport.TheVariants as report
 use Rattle.stream_guard.specs.declared.totals.Totals.{Totals}
 
+-- one where the test holds, else none
 abbrev pub one : Bool → ℕ
 one counts = if counts then 1 else 0
 
@@ -18,6 +19,7 @@ totals_of bins = record {
   bytes = sum_by (λ b. b.bytes) bins;
 }
 
+-- the totals of ten bins in which nothing was polled
 abbrev pub no_totals : Totals
 no_totals = record { no_polling = 10; pending = 0; transferred = 0; bytes = 0 }
 
@@ -44,7 +46,8 @@ exchanged totals old new = record {
 -- what ten bins with these totals say
 abbrev pub judged_totals : ℕ → Totals → ThroughputReport
 judged_totals resolution totals =
-    if nat_lt 0 totals.transferred then report.Transferred (record { bytes_read = min totals.bytes most_bytes; per_time_elapsed = 10 * resolution })
+    if nat_lt 0 totals.transferred then report.Transferred
+    (record { bytes_read = min totals.bytes most_bytes; per_time_elapsed = 10 * resolution })
     else if nat_le 5 totals.no_polling then report.NoPolling
     else if nat_le 5 totals.pending then report.Pending
     else report.Incomplete

@@ -1,11 +1,13 @@
 -- The events of a fleet with the calls that made them. The last act stands first.
-use Rattle.std.specs.Prelude.{◌≡◌, ◌<◌, ℕ, ◌==◌, Bool, true, false, List, [], ◌∷◌, ◌++◌, Option, None, Some, Ok, if◌then◌else◌}
+use Rattle.std.specs.Prelude.{◌≡◌, ◌<◌, ℕ, ◌==◌, Bool, true, false, List, [], ◌∷◌, ◌++◌, Option, None, Some, Ok}
+use Rattle.std.specs.Prelude.{if◌then◌else◌}
 use Rattle.smithy_types.specs.declared.timers.TimersCall.TheVariants.{Now, Start}
 use Rattle.waiter_fleet.specs.declared.event.FleetEvent.{FleetEvent}
 use Rattle.waiter_fleet.specs.declared.event.FleetEvent.TheVariants.{Poll, Sleep, Charged, Refused, End}
 use Rattle.waiter_fleet.specs.Events.{waiter_of}
 use Rattle.waiter_fleet.specs.Calls.{FleetCall, asks, awaited, drew, polled, timed, unanswered}
 
+-- an event of a fleet, with the asks before it and the sleep that it started
 pub record Act : Type 0 where
   pub event : FleetEvent
   -- how often the poll had no answer before, or the sleep wasn't over
@@ -13,6 +15,7 @@ pub record Act : Type 0 where
   -- the number of a sleep that was started
   pub sleep : ℕ
 
+-- the events of these acts
 abbrev pub events_of : List Act → List FleetEvent
 events_of [] = []
 events_of (act ∷ before) = act.event ∷ events_of before
@@ -45,7 +48,8 @@ calls_with (End waiter ending) times sleep before = []
 -- the calls of all acts, in their order
 abbrev pub calls_of : List Act → List FleetCall
 calls_of [] = []
-calls_of (act ∷ before) = calls_of before ++ calls_with act.event act.times act.sleep (open_sleep (waiter_of act.event) before)
+calls_of (act ∷ before) =
+    calls_of before ++ calls_with act.event act.times act.sleep (open_sleep (waiter_of act.event) before)
 
 -- whether the bucket was asked
 abbrev pub is_ask : FleetEvent → Bool
@@ -58,4 +62,5 @@ is_ask (End waiter ending) = false
 -- The bucket was asked while there was fuel left, each time.
 abbrev pub AreFunded : ℕ → List Act → Type 0
 AreFunded fuel [] = Unit {0}
-AreFunded fuel (act ∷ before) = (is_ask act.event ≡ true → asks (calls_of (act ∷ before)) < fuel) × AreFunded fuel before
+AreFunded fuel (act ∷ before) =
+    (is_ask act.event ≡ true → asks (calls_of (act ∷ before)) < fuel) × AreFunded fuel before

@@ -1,5 +1,6 @@
 -- The calls that a fleet makes of its world.
-use Rattle.std.specs.Prelude.{◌≡◌, ℕ, ◌+◌, ◌^◌, ◌≤◌, ◌<◌, Bool, true, false, List, [], ◌∷◌, ◌++◌, Option, None, Some, Result, Ok, Err, zero, suc}
+use Rattle.std.specs.Prelude.{◌≡◌, ℕ, ◌+◌, ◌^◌, ◌≤◌, ◌<◌, Bool, true, false, List, [], ◌∷◌, ◌++◌, Option, None, Some}
+use Rattle.std.specs.Prelude.{Result, Ok, Err, zero, suc}
 use Rattle.smithy_types.specs.declared.acceptor.AcceptorState.{AcceptorState}
 use Rattle.smithy_types.specs.declared.memory.OutOfMemory.{OutOfMemory}
 use Rattle.smithy_types.specs.declared.timers.TimersCall.{TimersCall}
@@ -37,6 +38,7 @@ waiter_call (timed call) = waiter.Timers call
 waiter_call (drew word) = waiter.Word word
 waiter_call parked = waiter.Park
 
+-- whether an operation was polled
 abbrev pub is_poll : FleetCall → Bool
 is_poll (polled number found) = true
 is_poll (timed call) = false
@@ -55,6 +57,7 @@ cost_of (timed (GiveUp sleep)) = 0
 cost_of (drew word) = 0
 cost_of parked = 0
 
+-- the fuel that these calls spend
 abbrev pub asks : List FleetCall → ℕ
 asks [] = 0
 asks (call ∷ calls) = cost_of call + asks calls
@@ -72,6 +75,7 @@ wait_of (timed (GiveUp sleep)) = 0
 wait_of (drew word) = 0
 wait_of parked = 0
 
+-- how many of these calls found no answer yet, or a sleep that wasn't over
 abbrev pub waits : List FleetCall → ℕ
 waits [] = 0
 waits (call ∷ calls) = wait_of call + waits calls

@@ -1,5 +1,6 @@
 -- What the events of a fleet tell of a waiter. The last event stands first.
-use Rattle.std.specs.Prelude.{ℕ, ◌+◌, ◌-◌, ◌/◌, ◌^◌, ◌==◌, ◌||◌, Bool, true, false, List, [], ◌∷◌, ◌++◌, if◌then◌else◌, min}
+use Rattle.std.specs.Prelude.{ℕ, ◌+◌, ◌-◌, ◌/◌, ◌^◌, ◌==◌, ◌||◌, Bool, true, false, List, [], ◌∷◌, ◌++◌, if◌then◌else◌}
+use Rattle.std.specs.Prelude.{min}
 use Rattle.smithy_types.specs.declared.kinds.ErrorKind.TheVariants.{ServerError}
 use Rattle.waiters.specs.Delay.{second}
 use Rattle.retry_quota.specs.Book.{Book, cost_of}
@@ -28,6 +29,7 @@ polls_with waiter (Charged one moment) before = before
 polls_with waiter (Refused one cost moment) before = before
 polls_with waiter (End one ending) before = before
 
+-- how many polls of the waiter were answered so far
 abbrev pub polls : ℕ → List FleetEvent → ℕ
 polls waiter [] = 0
 polls waiter (event ∷ before) = polls_with waiter event (polls waiter before)
@@ -40,6 +42,7 @@ charges_with waiter (Charged one moment) before = if one == waiter then before +
 charges_with waiter (Refused one cost moment) before = before
 charges_with waiter (End one ending) before = before
 
+-- how many polls of the waiter were paid for so far
 abbrev pub charges : ℕ → List FleetEvent → ℕ
 charges waiter [] = 0
 charges waiter (event ∷ before) = charges_with waiter event (charges waiter before)
@@ -52,6 +55,7 @@ moment_with waiter (Charged one moment) before = before
 moment_with waiter (Refused one cost moment) before = before
 moment_with waiter (End one ending) before = before
 
+-- the moment of the waiter's last poll, and the fleet's start before the first
 abbrev pub last_moment : ℕ → ℕ → List FleetEvent → ℕ
 last_moment start waiter [] = start
 last_moment start waiter (event ∷ before) = moment_with waiter event (last_moment start waiter before)
@@ -64,6 +68,7 @@ sleep_with waiter (Charged one moment) before = before
 sleep_with waiter (Refused one cost moment) before = before
 sleep_with waiter (End one ending) before = before
 
+-- how long the waiter's last sleep is, and 0 before the first
 abbrev pub last_sleep : ℕ → List FleetEvent → ℕ
 last_sleep waiter [] = 0
 last_sleep waiter (event ∷ before) = sleep_with waiter event (last_sleep waiter before)
@@ -76,6 +81,7 @@ zero_with waiter (Charged one moment) before = before
 zero_with waiter (Refused one cost moment) before = before
 zero_with waiter (End one ending) before = before
 
+-- whether the waiter used a delay of 0
 abbrev pub zero_used : ℕ → List FleetEvent → Bool
 zero_used waiter [] = false
 zero_used waiter (event ∷ before) = zero_with waiter event (zero_used waiter before)
@@ -88,6 +94,7 @@ ended_with waiter (Charged one moment) before = before
 ended_with waiter (Refused one cost moment) before = before
 ended_with waiter (End one ending) before = if one == waiter then true else before
 
+-- whether the waiter ended
 abbrev pub ended : ℕ → List FleetEvent → Bool
 ended waiter [] = false
 ended waiter (event ∷ before) = ended_with waiter event (ended waiter before)

@@ -1,5 +1,6 @@
 -- The run of a fleet, by its events. The last event stands first. Moments and times are in nanoseconds.
-use Rattle.std.specs.Prelude.{◌≡◌, ℕ, ◌+◌, ◌-◌, ◌/◌, ◌^◌, ◌≤◌, ◌<◌, ◌⊎◌, Bool, true, false, List, [], ◌∷◌, Some, slice_get, length, min, zero, suc, if◌then◌else◌}
+use Rattle.std.specs.Prelude.{◌≡◌, ℕ, ◌+◌, ◌-◌, ◌/◌, ◌^◌, ◌≤◌, ◌<◌, ◌⊎◌, Bool, true, false, List, [], ◌∷◌, Some}
+use Rattle.std.specs.Prelude.{slice_get, length, min, zero, suc, if◌then◌else◌}
 use Rattle.smithy_types.specs.declared.acceptor.AcceptorState.{AcceptorState}
 use Rattle.smithy_types.specs.declared.acceptor.AcceptorState.TheVariants.{NoAcceptorsMatched, Success, Failure, Retry}
 use Rattle.smithy_types.specs.declared.kinds.ErrorKind.TheVariants.{ServerError}
@@ -99,7 +100,8 @@ module _ (plans : List Plan) (book : Book) (start : ℕ) where
     pub answer : is_granted ServerError (moment / second) (book_after book before) ≡ granted
 
   -- the waiter's poll stands last, and what follows of it by its plan
-  pub record Behind (before : List FleetEvent) (waiter : ℕ) (follows : Plan → Bool → ℕ → ℕ → Verdict → Type 0) : Type 0 where
+  pub record Behind (before : List FleetEvent) (waiter : ℕ)
+      (follows : Plan → Bool → ℕ → ℕ → Verdict → Type 0) : Type 0 where
     pub plan : Plan
     pub planned : slice_get plans waiter ≡ Some plan
     pub number : ℕ
@@ -110,12 +112,20 @@ module _ (plans : List Plan) (book : Book) (start : ℕ) where
 
   -- how a waiter may end by itself
   abbrev pub MayEnd : List FleetEvent → ℕ → FleetEnd → Type 0
-  MayEnd before waiter (end.NoQuota cost) = (earlier : List FleetEvent) × (moment : ℕ) × (before ≡ Refused waiter cost moment ∷ earlier)
-  MayEnd before waiter end.Ok = Behind before waiter (λ plan used number elapsed verdict. EndsBy plan used number elapsed verdict end.Ok)
-  MayEnd before waiter end.OperationFailed = Behind before waiter (λ plan used number elapsed verdict. EndsBy plan used number elapsed verdict end.OperationFailed)
-  MayEnd before waiter end.FailureState = Behind before waiter (λ plan used number elapsed verdict. EndsBy plan used number elapsed verdict end.FailureState)
+  MayEnd before waiter (end.NoQuota cost) =
+      (earlier : List FleetEvent) × (moment : ℕ) × (before ≡ Refused waiter cost moment ∷ earlier)
+  MayEnd before waiter end.Ok =
+      Behind before waiter (λ plan used number elapsed verdict. EndsBy plan used number elapsed verdict end.Ok)
+  MayEnd before waiter end.OperationFailed =
+      Behind before waiter
+      (λ plan used number elapsed verdict. EndsBy plan used number elapsed verdict end.OperationFailed)
+  MayEnd before waiter end.FailureState =
+      Behind before waiter
+      (λ plan used number elapsed verdict. EndsBy plan used number elapsed verdict end.FailureState)
   MayEnd before waiter (end.ExceededMaxWait max_wait passed poll_count) =
-      Behind before waiter (λ plan used number elapsed verdict. EndsBy plan used number elapsed verdict (end.ExceededMaxWait max_wait passed poll_count))
+      Behind before waiter
+      (λ plan used number elapsed verdict.
+      EndsBy plan used number elapsed verdict (end.ExceededMaxWait max_wait passed poll_count))
   MayEnd before waiter end.Unfinished = ⊥
 
   -- which event may follow these
@@ -124,7 +134,8 @@ module _ (plans : List Plan) (book : Book) (start : ℕ) where
   Follows before (Charged waiter moment) = MayAsk before waiter moment true
   Follows before (Refused waiter cost moment) = MayAsk before waiter moment false × (cost ≡ cost_of ServerError book)
   Follows before (Sleep waiter nanos elapsed word) =
-      Behind before waiter (λ plan used number passed verdict. (elapsed ≡ passed) × GoesOn plan used number passed verdict word nanos)
+      Behind before waiter
+      (λ plan used number passed verdict. (elapsed ≡ passed) × GoesOn plan used number passed verdict word nanos)
   Follows before (End waiter ending) = MayEnd before waiter ending
 
   -- each event may follow those before it

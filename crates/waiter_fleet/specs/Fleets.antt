@@ -42,7 +42,8 @@ pub record Popped (count start : ℕ) (events : List FleetEvent) (one : Due) (du
 
 module _ {T : Type 0} (does : T → FleetCall → T → Type 0) (o : Origin T) (start : ℕ) where
   -- the fleet stands between two turns
-  pub record Between (acts : List Act) (seats : List Seat) (events : List FleetEvent) (book : Book) (world : T) (fuel : ℕ) : Type 0 where
+  pub record Between (acts : List Act) (seats : List Seat) (events : List FleetEvent) (book : Book) (world : T)
+      (fuel : ℕ) : Type 0 where
     pub stands : Stands does o start acts events book world fuel
     pub seated : AreSeated o.plans acts seats
     pub paid : (waiter : ℕ) → charges waiter (events_of acts) ≡ polls waiter (events_of acts) - 1
@@ -61,11 +62,13 @@ module _ {T : Type 0} (does : T → FleetCall → T → Type 0) (o : Origin T) (
     pub why : ((waiter : ℕ) → waiter < length o.plans → ended waiter (events_of acts) ≡ true) ⊎ (fuel ≡ 0)
 
   -- the turn of what was due first is over, and there may be another
-  pub record GoesFurther (seats : List Seat) (dues : List Due) (events : List FleetEvent) (book : Book) (world : T) (fuel : ℕ) : Type 0 where
+  pub record GoesFurther (seats : List Seat) (dues : List Due) (events : List FleetEvent) (book : Book) (world : T)
+      (fuel : ℕ) : Type 0 where
     pub acts : List Act
     pub between : Between acts seats events book world fuel
     pub scheduled : IsScheduled (length o.plans) start (events_of acts) dues
 
+  -- what a step of the fleet comes to: there may be another, or the fleet is over
   abbrev pub Stepped : List Seat → List Due → List FleetEvent → Book → T → ℕ → Bool → Type 0
   Stepped seats dues events book world fuel true = GoesFurther seats dues events book world fuel
   Stepped seats dues events book world fuel false = Over seats events book world fuel

@@ -28,7 +28,9 @@ charged_in_all (End waiter ending ∷ before) = charged_in_all before
 abbrev pub steps_of : ℕ → List FleetEvent → List Entry
 steps_of cost [] = []
 steps_of cost (Charged waiter moment ∷ before) =
-    steps_of cost before ++ (record { step = Acquire ServerError (moment / second); reply = Granted cost } ∷ record { step = Forget cost; reply = Done } ∷ [])
+    steps_of cost before
+    ++ (record { step = Acquire ServerError (moment / second); reply = Granted cost }
+    ∷ record { step = Forget cost; reply = Done } ∷ [])
 steps_of cost (Refused waiter refused moment ∷ before) =
     steps_of cost before ++ record { step = Acquire ServerError (moment / second); reply = history.Refused } ∷ []
 steps_of cost (Poll waiter number moment seen state ∷ before) = steps_of cost before
@@ -43,8 +45,10 @@ PaysItsPolls charges polls over = (charges ≡ polls - 1) ⊎ ((charges ≡ poll
 -- What a world answers, and where that leads it, follows from what it was. Want of memory aside.
 pub record IsSteady {T : Type 0} (does : T → FleetCall → T → Type 0) : Type 0 where
   pub moves : (old first second : T) (call : FleetCall) → does old call first → does old call second → first ≡ second
-  pub tells : (old first second : T) (one other : ℕ) → does old (timed (Now one)) first → does old (timed (Now other)) second → one ≡ other
-  pub draws : (old first second : T) (one other : ℕ) → does old (drew one) first → does old (drew other) second → one ≡ other
+  pub tells : (old first second : T) (one other : ℕ) → does old (timed (Now one)) first →
+      does old (timed (Now other)) second → one ≡ other
+  pub draws : (old first second : T) (one other : ℕ) → does old (drew one) first → does old (drew other) second →
+      one ≡ other
   pub polls : (old first second : T) (waiter : ℕ) (one other : Option (Seen × AcceptorState)) →
       does old (polled waiter (Ok one)) first → does old (polled waiter (Ok other)) second → one ≡ other
   pub starts : (old first second : T) (nanos : ℕ) (one other : Option ℕ) →
@@ -54,5 +58,7 @@ pub record IsSteady {T : Type 0} (does : T → FleetCall → T → Type 0) : Typ
 
 -- two runs of a fleet over such a world, begun in one way, come to the same events and the same bucket
 abbrev pub RunsAreDetermined : {T : Type 0} → (T → FleetCall → T → Type 0) → (T → ℕ) → Type 0
-RunsAreDetermined {T} does count = IsSteady does → (o : Origin T) (events others : List FleetEvent) (book other : Book) (world last : T) →
-    WaitsAll does count o events book world → WaitsAll does count o others other last → (events ≡ others) × (book ≡ other)
+RunsAreDetermined {T} does count =
+    IsSteady does → (o : Origin T) (events others : List FleetEvent) (book other : Book) (world last : T) →
+    WaitsAll does count o events book world → WaitsAll does count o others other last →
+    (events ≡ others) × (book ≡ other)

@@ -18,7 +18,8 @@ AreNotesOf (Poll waiter number moment seen state) notes =
 AreNotesOf (Sleep waiter nanos elapsed word) notes =
     (sleep : ℕ) × (notes ≡ drawn word ∷ (if nanos == 0 then [] else started nanos sleep ∷ []))
 AreNotesOf (Charged waiter moment) notes = (woke : List FleetAnswer) × Wakes woke × (notes ≡ woke ++ told moment ∷ [])
-AreNotesOf (Refused waiter cost moment) notes = (woke : List FleetAnswer) × Wakes woke × (notes ≡ woke ++ told moment ∷ [])
+AreNotesOf (Refused waiter cost moment) notes =
+    (woke : List FleetAnswer) × Wakes woke × (notes ≡ woke ++ told moment ∷ [])
 AreNotesOf (End waiter ending) notes = notes ≡ []
 
 -- and of all events, one after another
@@ -39,6 +40,8 @@ pub record Keeps (start : ℕ) (events : List FleetEvent) (old new : List FleetA
 -- A world keeps a list of its answers: each poll that was answered with the moment then, where the
 -- world tells it, each moment and word, each sleep that was started and each that was over, and
 -- nothing else. What its clock answers is the moment that it tells.
-pub record KeepsAnswers {T : Type 0} (does : T → FleetCall → T → Type 0) (answers : T → List FleetAnswer) (moment : T → Option ℕ) : Type 0 where
-  pub notes : (old : T) (call : FleetCall) (new : T) → does old call new → answers new ≡ answers old ++ noted (moment new) call
+pub record KeepsAnswers {T : Type 0} (does : T → FleetCall → T → Type 0) (answers : T → List FleetAnswer)
+    (moment : T → Option ℕ) : Type 0 where
+  pub notes : (old : T) (call : FleetCall) (new : T) → does old call new →
+      answers new ≡ answers old ++ noted (moment new) call
   pub tells : (old : T) (at : ℕ) (new : T) → does old (timed (Now at)) new → IfSome (moment old) (λ one. at ≡ one)

@@ -47,6 +47,7 @@ heap_cmp one other = due_cmp other.0 one.0
 abbrev pub dues_of : List (Reverse Due) → List Due
 dues_of items = map (λ one. one.0) items
 
+-- both are of one waiter
 abbrev pub is_same_waiter : Reverse Due → Reverse Due → Bool
 is_same_waiter one other = one.0.waiter == other.0.waiter
 

@@ -20,7 +20,8 @@ abbrev pub plan_of : Backoff → Plan
 plan_of backoff = record { min_delay = backoff.min_delay; max_delay = backoff.max_delay; max_wait = backoff.max_wait }
 
 -- the seat is that of a waiter with so many polls, whose sleep stands open, which may have ended
-pub record SeatIs (plans : List Plan) (waiter count : ℕ) (used : Bool) (sleep : Option ℕ) (over : Bool) (seat : Seat) : Type 0 where
+pub record SeatIs (plans : List Plan) (waiter count : ℕ) (used : Bool) (sleep : Option ℕ) (over : Bool)
+    (seat : Seat) : Type 0 where
   pub planned : slice_get plans waiter ≡ Some (plan_of seat.backoff)
   pub numbered : seat.number ≡ number_behind count
   pub zero : seat.zero_used ≡ used
@@ -30,22 +31,27 @@ pub record SeatIs (plans : List Plan) (waiter count : ℕ) (used : Bool) (sleep 
 -- the seat is that of the waiter behind these acts
 abbrev pub Seated : List Plan → List Act → ℕ → Seat → Type 0
 Seated plans acts waiter seat =
-    SeatIs plans waiter (polls waiter (events_of acts)) (zero_used waiter (events_of acts)) (open_sleep waiter acts) (ended waiter (events_of acts)) seat
+    SeatIs plans waiter (polls waiter (events_of acts)) (zero_used waiter (events_of acts)) (open_sleep waiter acts)
+    (ended waiter (events_of acts)) seat
 
 module _ {T : Type 0} (does : T → FleetCall → T → Type 0) (o : Origin T) (start waiter : ℕ) where
   -- a further poll was answered
-  pub record Polled (acts : List Act) (seat : Seat) (found : Found) (events : List FleetEvent) (book : Book) (world : T) (fuel : ℕ) : Type 0 where
+  pub record Polled (acts : List Act) (seat : Seat) (found : Found) (events : List FleetEvent) (book : Book) (world : T)
+      (fuel : ℕ) : Type 0 where
     pub times : ℕ
     pub seen : Seen
     pub state : AcceptorState
-    pub stands : Stands does o start (record { event = Poll waiter seat.number found.moment seen state; times = times; sleep = 0 } ∷ acts) events book world fuel
+    pub stands : Stands does o start
+        (record { event = Poll waiter seat.number found.moment seen state; times = times; sleep = 0 } ∷ acts) events
+        book world fuel
     pub elapsed : found.elapsed ≡ found.moment - start
     pub ending : MatchOption found.end
         (StaysOn (plan_of seat.backoff) seat.zero_used found.elapsed (verdict_of seen state))
         (EndsBy (plan_of seat.backoff) seat.zero_used seat.number found.elapsed (verdict_of seen state))
 
   -- the waiter may be polled, and its seat is as it was
-  pub record IsReady (old : List Act) (seat : Seat) (events : List FleetEvent) (book : Book) (world : T) (fuel : ℕ) : Type 0 where
+  pub record IsReady (old : List Act) (seat : Seat) (events : List FleetEvent) (book : Book) (world : T)
+      (fuel : ℕ) : Type 0 where
     pub acts : List Act
     pub stands : Stands does o start acts events book world fuel
     pub may : MayPoll o.plans o.book start (events_of acts) waiter seat.number
@@ -53,7 +59,8 @@ module _ {T : Type 0} (does : T → FleetCall → T → Type 0) (o : Origin T) (
     pub others : KeepsOthers start waiter old acts
 
   -- the waiter's turn is over, and whether the waiter ended
-  pub record TurnsOver (old : List Act) (over : Bool) (seat : Seat) (events : List FleetEvent) (book : Book) (world : T) (fuel : ℕ) : Type 0 where
+  pub record TurnsOver (old : List Act) (over : Bool) (seat : Seat) (events : List FleetEvent) (book : Book) (world : T)
+      (fuel : ℕ) : Type 0 where
     pub acts : List Act
     pub stands : Stands does o start acts events book world fuel
     pub seated : Seated o.plans acts waiter seat
@@ -63,7 +70,8 @@ module _ {T : Type 0} (does : T → FleetCall → T → Type 0) (o : Origin T) (
     pub others : KeepsOthers start waiter old acts
 
   -- the waiter sleeps until it is due at this moment
-  pub record Rests (old : List Act) (moment : ℕ) (seat : Seat) (events : List FleetEvent) (book : Book) (world : T) (fuel : ℕ) : Type 0 where
+  pub record Rests (old : List Act) (moment : ℕ) (seat : Seat) (events : List FleetEvent) (book : Book) (world : T)
+      (fuel : ℕ) : Type 0 where
     pub turned : TurnsOver old false seat events book world fuel
     pub is_due : moment ≡ due start waiter (events_of turned.acts)
 

@@ -1,5 +1,6 @@
 -- The parts of a turn, as the fleet makes them.
-use Rattle.std.specs.Prelude.{◌≡◌, ◌≢◌, ℕ, ◌+◌, ◌≤◌, Bool, true, false, List, [], ◌∷◌, ◌++◌, Option, None, Some, Ok, Err, length}
+use Rattle.std.specs.Prelude.{◌≡◌, ◌≢◌, ℕ, ◌+◌, ◌≤◌, Bool, true, false, List, [], ◌∷◌, ◌++◌, Option, None, Some, Ok}
+use Rattle.std.specs.Prelude.{Err, length}
 use Rattle.smithy_types.specs.Chain.{Chained}
 use Rattle.smithy_types.specs.declared.kinds.ErrorKind.TheVariants.{ServerError}
 use Rattle.smithy_types.specs.declared.timers.TimersCall.TheVariants.{Now}
@@ -91,7 +92,8 @@ module _ {T : Type 0} (does : T → FleetCall → T → Type 0) where
 pub record KeepsOthers (start waiter : ℕ) (old new : List Act) : Type 0 where
   pub same_polls : (other : ℕ) → other ≢ waiter → polls other (events_of new) ≡ polls other (events_of old)
   pub same_charges : (other : ℕ) → other ≢ waiter → charges other (events_of new) ≡ charges other (events_of old)
-  pub same_moment : (other : ℕ) → other ≢ waiter → last_moment start other (events_of new) ≡ last_moment start other (events_of old)
+  pub same_moment : (other : ℕ) → other ≢ waiter →
+      last_moment start other (events_of new) ≡ last_moment start other (events_of old)
   pub same_sleep : (other : ℕ) → other ≢ waiter → last_sleep other (events_of new) ≡ last_sleep other (events_of old)
   pub same_zero : (other : ℕ) → other ≢ waiter → zero_used other (events_of new) ≡ zero_used other (events_of old)
   pub same_end : (other : ℕ) → other ≢ waiter → ended other (events_of new) ≡ ended other (events_of old)

@@ -11,8 +11,10 @@ use Rattle.waiter_fleet.specs.Seats.{Breaks, Rests, TurnsOver}
 use Rattle.waiter_fleet.specs.Steps.{Origin}
 
 module _ {T : Type 0} (does : T → FleetCall → T → Type 0) (o : Origin T) (start waiter : ℕ) (acts : List Act) where
+  -- what a turn of the waiter comes to: it sleeps until a moment, it ended, or the fuel is spent
   abbrev pub TurnEnds : Seat → Seat → List FleetEvent → Book → T → ℕ → Turned → Type 0
-  TurnEnds was is events book world fuel (Sleeps moment) = Rests does o start waiter acts moment is events book world fuel
+  TurnEnds was is events book world fuel (Sleeps moment) =
+      Rests does o start waiter acts moment is events book world fuel
   TurnEnds was is events book world fuel Ended = TurnsOver does o start waiter acts true is events book world fuel
   TurnEnds was is events book world fuel Spent = Breaks does o start waiter acts events book world fuel × (is ≡ was)
 

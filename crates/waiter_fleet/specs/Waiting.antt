@@ -38,6 +38,7 @@ pub record WaitsAll {T : Type 0} (does : T → FleetCall → T → Type 0) (coun
   pub within : asks (calls_of acts ++ rest) ≤ o.fuel
   -- Once it is spent, the bucket isn't asked.
   pub funded : AreFunded o.fuel acts
-  pub all_spent : (waiter : ℕ) → waiter < length o.plans → ended waiter (events_of acts) ≡ false → asks (calls_of acts ++ rest) ≡ o.fuel
+  pub all_spent : (waiter : ℕ) → waiter < length o.plans → ended waiter (events_of acts) ≡ false →
+      asks (calls_of acts ++ rest) ≡ o.fuel
   -- The world counted the polls that had no answer and the sleeps that weren't over.
   pub counted : count world ≡ count o.world + waits (calls_of acts ++ rest)

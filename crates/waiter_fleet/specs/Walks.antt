@@ -35,8 +35,10 @@ turned_by nanos word (Charged waiter moment ∷ earlier) turns = turns
 turned_by nanos word (Refused waiter cost moment ∷ earlier) turns = turns
 turned_by nanos word (End waiter ending ∷ earlier) turns = turns
 
+-- the turns of a waiter with one more event: each of its sleeps makes a turn
 abbrev pub turns_with : ℕ → FleetEvent → List FleetEvent → List FleetTurn → List FleetTurn
-turns_with waiter (Sleep one nanos elapsed word) before turns = if one == waiter then turned_by nanos word before turns else turns
+turns_with waiter (Sleep one nanos elapsed word) before turns =
+    if one == waiter then turned_by nanos word before turns else turns
 turns_with waiter (Poll one number moment seen state) before turns = turns
 turns_with waiter (Charged one moment) before turns = turns
 turns_with waiter (Refused one cost moment) before turns = turns
@@ -49,6 +51,7 @@ turns_of waiter (event ∷ before) = turns_with waiter event before (turns_of wa
 
 -- what a poll answered as a waiter's operation answers it, with this fault and this response
 module _ (fault : Fault) (response : HttpResponse) where
+  -- a poll's answer as the operation of a waiter on its own gives it
   abbrev pub result_of : Seen → Result Payload (SdkError Payload)
   result_of (Output payload) = Ok payload
   result_of (Service payload) = Err (ServiceError payload response)
@@ -85,24 +88,29 @@ Names ending (Err failed) = ⊥
 
 -- a waiter's own events, without those of the bucket
 abbrev pub own_with : ℕ → FleetEvent → List FleetEvent → List FleetEvent
-own_with waiter (Poll one number moment seen state) before = if one == waiter then Poll one number moment seen state ∷ before else before
-own_with waiter (Sleep one nanos elapsed word) before = if one == waiter then Sleep one nanos elapsed word ∷ before else before
+own_with waiter (Poll one number moment seen state) before =
+    if one == waiter then Poll one number moment seen state ∷ before else before
+own_with waiter (Sleep one nanos elapsed word) before =
+    if one == waiter then Sleep one nanos elapsed word ∷ before else before
 own_with waiter (Charged one moment) before = before
 own_with waiter (Refused one cost moment) before = before
 own_with waiter (End one ending) before = if one == waiter then End one ending ∷ before else before
 
+-- the polls, sleeps and end of the waiter
 abbrev pub own_events : ℕ → List FleetEvent → List FleetEvent
 own_events waiter [] = []
 own_events waiter (event ∷ before) = own_with waiter event (own_events waiter before)
 
 -- and those behind its last sleep
 abbrev pub last_with : ℕ → FleetEvent → List FleetEvent → List FleetEvent
-last_with waiter (Poll one number moment seen state) before = if one == waiter then Poll one number moment seen state ∷ before else before
+last_with waiter (Poll one number moment seen state) before =
+    if one == waiter then Poll one number moment seen state ∷ before else before
 last_with waiter (Sleep one nanos elapsed word) before = if one == waiter then [] else before
 last_with waiter (Charged one moment) before = before
 last_with waiter (Refused one cost moment) before = before
 last_with waiter (End one ending) before = if one == waiter then End one ending ∷ before else before
 
+-- the waiter's own events behind its last sleep
 abbrev pub last_events : ℕ → List FleetEvent → List FleetEvent
 last_events waiter [] = []
 last_events waiter (event ∷ before) = last_with waiter event (last_events waiter before)
@@ -118,7 +126,8 @@ spelled start waiter (turn ∷ before) =
 -- Behind its turns a waiter has nothing more, one poll, one poll that ended it, or was refused.
 pub data IsLast (waiter : ℕ) : List FleetEvent → Type 0 where
   nothing : IsLast waiter []
-  a_poll : (number moment : ℕ) (seen : Seen) (state : AcceptorState) → IsLast waiter (Poll waiter number moment seen state ∷ [])
+  a_poll : (number moment : ℕ) (seen : Seen) (state : AcceptorState) →
+      IsLast waiter (Poll waiter number moment seen state ∷ [])
   an_end : (number moment : ℕ) (seen : Seen) (state : AcceptorState) (ending : FleetEnd) →
       IsLast waiter (End waiter ending ∷ Poll waiter number moment seen state ∷ [])
   a_refusal : (cost : ℕ) → IsLast waiter (End waiter (end.NoQuota cost) ∷ [])

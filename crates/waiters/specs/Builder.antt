@@ -1,5 +1,6 @@
 -- What a builder is refused for, and what it makes.
-use Rattle.std.specs.Prelude.{◌≡◌, Bool, true, false, not, List, [], ◌∷◌, Option, None, Some, is_none, nat_lt, unwrap_or}
+use Rattle.std.specs.Prelude.{◌≡◌, Bool, true, false, not, List, [], ◌∷◌, Option, None, Some, is_none, nat_lt}
+use Rattle.std.specs.Prelude.{unwrap_or}
 use Rattle.waiters.specs.declared.builder.WaiterOrchestratorBuilder.{WaiterOrchestratorBuilder}
 use Rattle.smithy_types.specs.declared.build_error.BuildError.{BuildError}
 use Rattle.smithy_types.specs.declared.build_error.BuildError.TheVariants.{Missing, DelayBelowSecond, DelaysOutOfOrder}
@@ -32,6 +33,7 @@ module _ {F G : Type 0} where
       ∷ (nat_lt (unwrap_or b.max_delay 0) (unwrap_or b.min_delay 0), DelaysOutOfOrder)
       ∷ []
 
+  -- why no waiter can be made of the builder's parts, or nothing where one can
   abbrev pub refusal : WaiterOrchestratorBuilder F G → Option BuildError
   refusal b = first_failed (checks_of b)
 

@@ -1,5 +1,6 @@
 -- The calls that a waiter makes of its timers and its operation.
-use Rattle.std.specs.Prelude.{◌≡◌, ℕ, ◌≤◌, ◌<◌, ◌^◌, Bool, true, false, not, List, [], ◌∷◌, Option, None, Some, Result, Ok, Err, count_by}
+use Rattle.std.specs.Prelude.{◌≡◌, ℕ, ◌≤◌, ◌<◌, ◌^◌, Bool, true, false, not, List, [], ◌∷◌, Option, None, Some, Result}
+use Rattle.std.specs.Prelude.{Ok, Err, count_by}
 use Rattle.std.specs.Borrow.{MutBor}
 use Rattle.smithy_types.specs.declared.fault.SdkError.{SdkError}
 use Rattle.smithy_types.specs.declared.memory.OutOfMemory.{OutOfMemory}
@@ -51,6 +52,7 @@ is_ask (polled number (Ok found)) = true
 is_ask (polled number (Err error)) = false
 is_ask (called call) = is_ready_call call
 
+-- whether a call asked a sleep that wasn't over yet
 abbrev pub is_unready : {O E : Type 0} → Call O E → Bool
 is_unready (polled number found) = false
 is_unready (called call) = is_unready_call call
@@ -60,17 +62,20 @@ abbrev pub asks : {O E : Type 0} → List (Call O E) → ℕ
 asks = count_by is_ask
 
 -- A poll with this number may find the timers old, answer this and leave them new.
-pub record Polls {T O E : Type 0} (answers : MutBor T → ℕ → Answer O E → MutBor T → Type 0) (old : T) (number : ℕ) (answer : Answer O E) (new : T) : Type 0 where
+pub record Polls {T O E : Type 0} (answers : MutBor T → ℕ → Answer O E → MutBor T → Type 0) (old : T) (number : ℕ)
+    (answer : Answer O E) (new : T) : Type 0 where
   pub before : MutBor T
   pub shows : before.now ≡ old
   pub after : MutBor T
   pub leaves : after.now ≡ new
   pub met : answers before number answer after
 
-module _ {T O E : Type 0} (makes : T → WaiterCall → T → Type 0) (answers : MutBor T → ℕ → Answer O E → MutBor T → Type 0) where
+module _ {T O E : Type 0} (makes : T → WaiterCall → T → Type 0)
+    (answers : MutBor T → ℕ → Answer O E → MutBor T → Type 0) where
   -- one call may take the timers from old to new
   abbrev pub Takes : T → Call O E → T → Type 0
-  Takes old (polled number answer) new = makes old (Poll number (poll_answer answer)) new × Polls answers old number answer new
+  Takes old (polled number answer) new =
+      makes old (Poll number (poll_answer answer)) new × Polls answers old number answer new
   Takes old (called call) new = makes old call new
 
   -- these calls may, one after another
@@ -79,7 +84,9 @@ module _ {T O E : Type 0} (makes : T → WaiterCall → T → Type 0) (answers :
   Handed old (call ∷ calls) new = (mid : T) × Takes old call mid × Handed mid calls new
 
 -- The operation keeps the timers' relation, at each number that a poll may have.
-abbrev pub KeepsTimers : {T O E : Type 0} → (T → WaiterCall → T → Type 0) → (MutBor T → ℕ → Answer O E → MutBor T → Type 0) → Type 0
+abbrev pub KeepsTimers : {T O E : Type 0} → (T → WaiterCall → T → Type 0) →
+    (MutBor T → ℕ → Answer O E → MutBor T → Type 0) → Type 0
 KeepsTimers {T} {O} {E} makes answers =
-    (before after : MutBor T) (number : ℕ) (answer : Answer O E) → 1 ≤ number → number < 2 ^ 32 → answers before number answer after →
+    (before after : MutBor T) (number : ℕ) (answer : Answer O E) → 1 ≤ number → number < 2 ^ 32 →
+    answers before number answer after →
     makes before.now (Poll number (poll_answer answer)) after.now

@@ -1,9 +1,11 @@
 -- The parts of a turn, as the waiter makes them.
-use Rattle.std.specs.Prelude.{◌≡◌, ℕ, ◌+◌, Bool, true, List, [], ◌∷◌, ◌++◌, Option, None, Some, Result, Ok, Err, count_by, if◌then◌else◌}
+use Rattle.std.specs.Prelude.{◌≡◌, ℕ, ◌+◌, Bool, true, List, [], ◌∷◌, ◌++◌, Option, None, Some, Result, Ok, Err}
+use Rattle.std.specs.Prelude.{count_by, if◌then◌else◌}
 use Rattle.std.specs.Borrow.{Bor, MutBor}
 use Rattle.smithy_types.specs.declared.acceptor.AcceptorState.{AcceptorState}
 use Rattle.smithy_types.specs.declared.fault.SdkError.{SdkError}
-use Rattle.smithy_types.specs.declared.fault.SdkError.TheVariants.{ConstructionFailure, TimeoutError, DispatchFailure, ResponseError, ServiceError}
+use Rattle.smithy_types.specs.declared.fault.SdkError.TheVariants.{ConstructionFailure, TimeoutError, DispatchFailure}
+use Rattle.smithy_types.specs.declared.fault.SdkError.TheVariants.{ResponseError, ServiceError}
 use Rattle.smithy_types.specs.declared.timers.TimersCall.TheVariants.{Start, Ready}
 use Rattle.waiters.specs.declared.backoff.Backoff.{Backoff}
 use Rattle.waiters.specs.declared.progress.Progress.{Progress}
@@ -39,7 +41,8 @@ ask_calls number times (Err (stop.OutOfMemory refused)) = unanswered number time
 
 -- the asks of one sleep: whether it came to its end
 abbrev pub sleep_calls : (sleep times : ℕ) → Bool → List WaiterCall
-sleep_calls sleep times over = if over then unready sleep times ++ (Timers (Ready sleep true) ∷ []) else unready sleep times
+sleep_calls sleep times over =
+    if over then unready sleep times ++ (Timers (Ready sleep true) ∷ []) else unready sleep times
 
 -- the calls of one delay
 abbrev pub pause_calls : (delay sleep times : ℕ) → Result Unit Stop → List WaiterCall
@@ -58,7 +61,8 @@ module _ {T : Type 0} (makes : T → WaiterCall → T → Type 0) where
     pub handed : TimersHanded old calls new
     pub spent : after + count_by is_ready_call calls ≡ before
 
-module _ {T O E : Type 0} (makes : T → WaiterCall → T → Type 0) (answers : MutBor T → ℕ → Answer O E → MutBor T → Type 0) where
+module _ {T O E : Type 0} (makes : T → WaiterCall → T → Type 0)
+    (answers : MutBor T → ℕ → Answer O E → MutBor T → Type 0) where
   -- these calls take the timers from old to new and the fuel from before to after
   pub record Spends (old : T) (before : ℕ) (calls : List (Call O E)) (new : T) (after : ℕ) : Type 0 where
     pub handed : Handed makes answers old calls new

@@ -1,11 +1,13 @@
 -- The walk of a waiter over its polls. Moments and delays are in nanoseconds.
-use Rattle.std.specs.Prelude.{◌≡◌, ℕ, ◌+◌, ◌-◌, ◌<◌, ◌≤◌, ◌⊎◌, ◌==◌, Bool, true, false, List, [], ◌∷◌, length, Result, Ok, Err, min, ◌^◌}
+use Rattle.std.specs.Prelude.{◌≡◌, ℕ, ◌+◌, ◌-◌, ◌<◌, ◌≤◌, ◌⊎◌, ◌==◌, Bool, true, false, List, [], ◌∷◌, length, Result}
+use Rattle.std.specs.Prelude.{Ok, Err, min, ◌^◌}
 use Rattle.std.specs.List.{list_any}
 use Rattle.std.specs.Borrow.{Bor}
 use Rattle.smithy_types.specs.declared.acceptor.AcceptorState.{AcceptorState}
 use Rattle.smithy_types.specs.declared.acceptor.AcceptorState.TheVariants.{NoAcceptorsMatched, Success, Failure, Retry}
 use Rattle.smithy_types.specs.declared.fault.SdkError.{SdkError}
-use Rattle.smithy_types.specs.declared.fault.SdkError.TheVariants.{ConstructionFailure, TimeoutError, DispatchFailure, ResponseError, ServiceError}
+use Rattle.smithy_types.specs.declared.fault.SdkError.TheVariants.{ConstructionFailure, TimeoutError, DispatchFailure}
+use Rattle.smithy_types.specs.declared.fault.SdkError.TheVariants.{ResponseError, ServiceError}
 use Rattle.waiters.specs.declared.backoff.Backoff.{Backoff}
 use Rattle.waiters.specs.declared.outcome.FinalPoll.{FinalPoll}
 use Rattle.waiters.specs.declared.outcome.WaiterError.{WaiterError}
@@ -32,9 +34,11 @@ pub record Turn (O E : Type 0) : Type 0 where
   pub unready : ℕ
 
 -- the state is what the acceptor says of an output or an error of the operation's model
-abbrev pub Accepts : {O E : Type 0} → (Result (Bor O) (Bor E) → AcceptorState → Type 0) → Result O (SdkError E) → AcceptorState → Type 0
+abbrev pub Accepts : {O E : Type 0} → (Result (Bor O) (Bor E) → AcceptorState → Type 0) → Result O (SdkError E) →
+    AcceptorState → Type 0
 Accepts {O} says (Ok output) state = (seen : Bor O) × (seen.now ≡ output) × says (Ok seen) state
-Accepts {O} {E} says (Err (ServiceError error response)) state = (seen : Bor E) × (seen.now ≡ error) × says (Err seen) state
+Accepts {O} {E} says (Err (ServiceError error response)) state =
+    (seen : Bor E) × (seen.now ≡ error) × says (Err seen) state
 Accepts says (Err (ConstructionFailure fault)) state = Unit {0}
 Accepts says (Err (TimeoutError fault)) state = Unit {0}
 Accepts says (Err (DispatchFailure fault)) state = Unit {0}
@@ -47,6 +51,7 @@ pub data Verdict : Type 0 where
   is_failure : Verdict
   goes_on : Verdict
 
+-- what a poll with this result and this state of the acceptor means for the walk
 abbrev pub verdict : {O E : Type 0} → Result O (SdkError E) → AcceptorState → Verdict
 -- an error that isn't of the operation's model, whatever its state
 verdict (Err (ConstructionFailure fault)) state = fails
@@ -75,6 +80,7 @@ Shows (Err error) (Err (TimeoutError fault)) = ⊥
 Shows (Err error) (Err (DispatchFailure fault)) = ⊥
 Shows (Err error) (Err (ResponseError fault response)) = ⊥
 
+-- what a waiter returns: the final poll that succeeded, or an error
 abbrev pub End : Type 0 → Type 0 → Type 0
 End O E = Result (FinalPoll O E) (WaiterError O E)
 
@@ -120,7 +126,8 @@ module _ {O E : Type 0} (backoff : Backoff) (says : Result (Bor O) (Bor E) → A
     pub goes : verdict turn.poll.result turn.poll.state ≡ goes_on
     pub no_zero : zero_used before ≡ false
     pub in_time : turn.poll.moment - start ≤ backoff.max_wait
-    pub delays : IsDelay backoff.min_delay backoff.max_delay backoff.max_wait (number_after before) (turn.poll.moment - start) turn.word turn.delay
+    pub delays : IsDelay backoff.min_delay backoff.max_delay backoff.max_wait (number_after before)
+        (turn.poll.moment - start) turn.word turn.delay
 
   -- each turn follows from those before it
   abbrev pub IsWalk : List (Turn O E) → Type 0

@@ -1,5 +1,6 @@
 -- The calls of a walk, in their order.
-use Rattle.std.specs.Prelude.{◌≡◌, ◌≢◌, ℕ, ◌+◌, ◌≤◌, ◌==◌, true, false, List, [], ◌∷◌, ◌++◌, None, Some, Result, Ok, Err, if◌then◌else◌, zero, suc, count_by, map}
+use Rattle.std.specs.Prelude.{◌≡◌, ◌≢◌, ℕ, ◌+◌, ◌≤◌, ◌==◌, true, false, List, [], ◌∷◌, ◌++◌, None, Some, Result, Ok}
+use Rattle.std.specs.Prelude.{Err, if◌then◌else◌, zero, suc, count_by, map}
 use Rattle.std.specs.Borrow.{Bor, MutBor}
 use Rattle.smithy_types.specs.declared.acceptor.AcceptorState.{AcceptorState}
 use Rattle.smithy_types.specs.declared.memory.OutOfMemory.{OutOfMemory}
@@ -32,6 +33,7 @@ delay_calls delay sleep times =
     if delay == 0 then []
     else Timers (Start delay (Ok (Some sleep))) ∷ (unready sleep times ++ (Timers (Ready sleep true) ∷ []))
 
+-- the calls of a turn: those of its poll, the draw of its word and those of its delay
 abbrev pub turn_calls : {O E : Type 0} → ℕ → Turn O E → List (Call O E)
 turn_calls number turn =
     poll_calls number turn.poll ++ map called (Word turn.word ∷ delay_calls turn.delay turn.sleep turn.unready)
