@@ -24,13 +24,17 @@ is_answer (Shell shells.OutOfMemory) = false
 
 -- Over the same bytes, faults and want of memory aside, the status is the same,
 abbrev pub OneStatus : {K : Type 0} → (K → SinkView) → (List ℕ → Said → Type 0) → Type 0
-OneStatus {K} view says = (bytes : List ℕ) (first second : Ended) (before after begun later : SourceView) (old new start end : K) →
+OneStatus {K} view says =
+    (bytes : List ℕ) (first second : Ended) (before after begun later : SourceView) (old new start end : K) →
     before.left ≡ Some bytes → begun.left ≡ Some bytes → is_answer first ≡ true → is_answer second ≡ true →
     Served view says first before after old new → Served view says second begun later start end → first ≡ second
 
 -- and so is what was written behind the same earlier bytes, where the sinks lost nothing.
 abbrev pub OneText : {K : Type 0} → (K → SinkView) → (List ℕ → Said → Type 0) → Type 0
-OneText {K} view says = (bytes written : List ℕ) (first second : Ended) (before after begun later : SourceView) (old new start end : K) →
+OneText {K} view says =
+    (bytes written : List ℕ) (first second : Ended) (before after begun later : SourceView) (old new start end : K) →
     before.left ≡ Some bytes → begun.left ≡ Some bytes → is_answer first ≡ true → is_answer second ≡ true →
-    (view old).written ≡ Some written → (view start).written ≡ Some written → (view new).is_lost ≡ false → (view end).is_lost ≡ false →
-    Served view says first before after old new → Served view says second begun later start end → (view new).written ≡ (view end).written
+    (view old).written ≡ Some written → (view start).written ≡ Some written →
+    (view new).is_lost ≡ false → (view end).is_lost ≡ false →
+    Served view says first before after old new → Served view says second begun later start end →
+    (view new).written ≡ (view end).written

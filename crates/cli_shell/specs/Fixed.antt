@@ -8,5 +8,6 @@ use Rattle.cli_shell.specs.declared.status.Refusal.TheVariants as refusals
 abbrev pub tells_text : List ℕ → Said → Type 0
 tells_text text s = s ≡ prints outcomes.Ok text
 
+-- the command isn't built
 abbrev pub tells_unbuilt : Said → Type 0
 tells_unbuilt s = s ≡ refuses refusals.NotBuilt

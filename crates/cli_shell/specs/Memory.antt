@@ -27,18 +27,23 @@ faults_read faults gots.Failed = counted faults
 faults_read faults gots.End = faults
 faults_read faults (gots.Bytes n) = faults
 
+-- a failure of a write is counted, and nothing else is
 abbrev pub faults_written : ℕ → Wrote → ℕ
 faults_written faults wrotes.Failed = counted faults
 faults_written faults (wrotes.Took n) = faults
 
+-- a source in memory that never fails tells the bytes behind its position
 abbrev pub sure_source_view : SureSource → SourceView
 sure_source_view s = record { left = Some (drop (cursor_position s.bytes) (cursor_inner s.bytes).items); faults = 0 }
 
+-- a source in memory tells the bytes behind its position, and how often it has failed
 abbrev pub source_view : MemorySource → SourceView
 source_view s = record { left = Some (drop (cursor_position s.bytes) (cursor_inner s.bytes).items); faults = s.faults }
 
+-- a sink in memory tells all that was written, loses nothing, and counts its failures
 abbrev pub sink_view : MemorySink → SinkView
 sink_view s = record { written = Some s.bytes.items; is_lost = false; faults = s.faults }
 
+-- a sink in memory that never fails tells what it holds, and whether bytes were lost
 abbrev pub sure_view : SureSink → SinkView
 sure_view s = record { written = Some s.bytes.items; is_lost = s.is_lost; faults = 0 }

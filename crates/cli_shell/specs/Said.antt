@@ -10,6 +10,7 @@ pub data Said : Type 0 where
   prints : PrintStatus → List ℕ → Said
   refuses : Refusal → Said
 
+-- what a command's answer says
 abbrev pub said : Answer → Said
 said (answers.Print text outcome) = prints outcome text.items
 said (answers.Refusal refusal) = refuses refusal

@@ -13,10 +13,12 @@ use Rattle.cli_shell.specs.declared.status.Ended.TheVariants.{Printed, Refused, 
 
 -- What each status says of what the command said and of what was written.
 abbrev pub Gives : {K : Type 0} → (K → SinkView) → (Said → Type 0) → Ended → K → K → Type 0
-Gives view tells (Printed outcome) old new = (text : List ℕ) × tells (prints outcome text) × Adds (view old) text (view new)
+Gives view tells (Printed outcome) old new =
+    (text : List ℕ) × tells (prints outcome text) × Adds (view old) text (view new)
 Gives view tells (Refused refusal) old new = tells (refuses refusal) × (new ≡ old)
 Gives view tells (Shell shells.WriteFault) old new =
-    (outcome : PrintStatus) × (text : List ℕ) × tells (prints outcome text) × AddsFront (view old) text (view new) × Rose (view old).faults (view new).faults
+    (outcome : PrintStatus) × (text : List ℕ) × tells (prints outcome text) × AddsFront (view old) text (view new)
+    × Rose (view old).faults (view new).faults
 Gives view tells (Shell shells.OutOfMemory) old new = new ≡ old
 Gives view tells (Shell shells.BadWords) old new = ⊥
 Gives view tells (Shell shells.ReadFault) old new = ⊥
@@ -29,9 +31,11 @@ GivesUp (Printed outcome) before after old new = ⊥
 GivesUp (Refused refusal) before after old new = ⊥
 
 -- A command that reads: its input was not read, or this was it and the command said so.
-abbrev pub Served : {K : Type 0} → (K → SinkView) → (List ℕ → Said → Type 0) → Ended → SourceView → SourceView → K → K → Type 0
+abbrev pub Served : {K : Type 0} → (K → SinkView) → (List ℕ → Said → Type 0) → Ended → SourceView → SourceView → K → K
+    → Type 0
 Served view says status before after old new =
-    GivesUp status before after old new ⊎ ((bytes : List ℕ) × IsRead before bytes after × Gives view (says bytes) status old new)
+    GivesUp status before after old new
+    ⊎ ((bytes : List ℕ) × IsRead before bytes after × Gives view (says bytes) status old new)
 
 -- what was answered, unless there was no memory for it
 abbrev pub IsAnswered : Result Answer AllocError → Said → Type 0

@@ -11,6 +11,7 @@ use Rattle.cli_shell.specs.declared.status.ShellStatus.TheVariants as shells
 use Rattle.cli_shell.specs.declared.status.Status.{Status}
 use Rattle.cli_shell.specs.declared.status.Status.TheVariants as statuses
 
+-- the exit status of a process
 abbrev pub number_of : Status → ℕ
 number_of statuses.Ok = 0
 number_of statuses.BadWords = 1
@@ -26,6 +27,7 @@ number_of statuses.WrongType = 12
 number_of statuses.CheckNo = 13
 number_of statuses.WaiterFailed = 20
 
+-- the status of a command that printed
 abbrev pub printed_status : PrintStatus → Status
 printed_status prints.Ok = statuses.Ok
 printed_status prints.SdkError = statuses.SdkError
@@ -34,6 +36,7 @@ printed_status prints.WrongType = statuses.WrongType
 printed_status prints.CheckNo = statuses.CheckNo
 printed_status prints.WaiterFailed = statuses.WaiterFailed
 
+-- the status of a command that refused its input
 abbrev pub refused_status : Refusal → Status
 refused_status refusals.BadScript = statuses.BadScript
 refused_status refusals.TooLarge = statuses.TooLarge
@@ -47,6 +50,7 @@ shell_status shells.WriteFault = statuses.WriteFault
 shell_status shells.OutOfMemory = statuses.OutOfMemory
 shell_status shells.LongInput = statuses.TooLarge
 
+-- the status of a command, however it ended
 abbrev pub status_of : Ended → Status
 status_of (Printed status) = printed_status status
 status_of (Refused refusal) = refused_status refusal

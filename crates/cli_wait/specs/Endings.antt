@@ -8,6 +8,7 @@ use Rattle.waiters.specs.declared.outcome.WaiterError.TheVariants as end
 use Rattle.cli_wait.specs.declared.ending.WaitEnding.{WaitEnding}
 use Rattle.cli_wait.specs.declared.ending.WaitEnding.TheVariants as endings
 
+-- the final poll gave an output, or an error of the model
 abbrev pub final_ending : Result PolledValue PolledValue → WaitEnding
 final_ending (Ok output) = endings.Output output.payload
 final_ending (Err error) = endings.Service error.payload
@@ -17,7 +18,8 @@ abbrev pub ending_of : End PolledValue PolledValue → Option WaitEnding
 ending_of (Ok final) = Some (final_ending final.result)
 ending_of (Err (end.OperationFailed error)) = Some endings.OperationFailed
 ending_of (Err (end.FailureState final)) = Some endings.FailureState
-ending_of (Err (end.ExceededMaxWait max_wait elapsed poll_count)) = Some (endings.ExceededMaxWait max_wait elapsed poll_count)
+ending_of (Err (end.ExceededMaxWait max_wait elapsed poll_count)) =
+    Some (endings.ExceededMaxWait max_wait elapsed poll_count)
 ending_of (Err end.Unfinished) = Some endings.Unfinished
 ending_of (Err end.OutOfMemory) = None
 

@@ -1,5 +1,6 @@
 -- What a call makes of scripted timers.
-use Rattle.std.specs.Prelude.{◌≡◌, ℕ, ◌+◌, ◌-◌, ◌^◌, ◌==◌, ◌<◌, ◌≤◌, true, false, if◌then◌else◌, List, [], ◌∷◌, ◌++◌, None, Some, Ok, Err, option_to_list, unwrap_or}
+use Rattle.std.specs.Prelude.{◌≡◌, ℕ, ◌+◌, ◌-◌, ◌^◌, ◌==◌, ◌<◌, ◌≤◌, true, false, if◌then◌else◌, List, [], ◌∷◌, ◌++◌}
+use Rattle.std.specs.Prelude.{None, Some, Ok, Err, option_to_list, unwrap_or}
 use Rattle.smithy_types.specs.declared.timers.TimersCall.{TimersCall}
 use Rattle.smithy_types.specs.declared.timers.TimersCall.TheVariants.{Now, Start, Ready, GiveUp}
 use Rattle.waiters.specs.declared.timers.PollAnswer.TheVariants.{Answered, Pending, OutOfMemory}
@@ -23,7 +24,10 @@ abbrev pub Ticks : ScriptedTimers → TimersCall → ScriptedTimers → Type 0
 Ticks old (Now moment) new = (moment ≡ old.moment) × (new ≡ old)
 Ticks old (Start nanos (Ok sleep)) new =
     (sleep ≡ Some (later old.moment nanos))
-    × (new ≡ record old { sleeps = old.sleeps ++ later old.moment nanos ∷ []; notes = old.notes ++ note.Sleep nanos ∷ [] })
+    × (new ≡ record old {
+      sleeps = old.sleeps ++ later old.moment nanos ∷ [];
+      notes = old.notes ++ note.Sleep nanos ∷ [];
+    })
 Ticks old (Start nanos (Err error)) new = new ≡ old
 Ticks old (Ready sleep true) new = (sleep ≤ old.moment) × (new ≡ record old { sleeps = without sleep old.sleeps })
 Ticks old (Ready sleep false) new = (old.moment < sleep) × (new ≡ record old { unready = counted old.unready })

@@ -3,7 +3,8 @@ use Rattle.std.specs.Prelude.{◌≡◌, ℕ, ◌-◌, min, List, length, Option
 use Rattle.smithy_types.specs.declared.acceptor.AcceptorState.{AcceptorState}
 use Rattle.smithy_types.specs.declared.acceptor.AcceptorState.TheVariants.{NoAcceptorsMatched}
 use Rattle.smithy_types.specs.declared.fault.SdkError.{SdkError}
-use Rattle.smithy_types.specs.declared.fault.SdkError.TheVariants.{ConstructionFailure, TimeoutError, DispatchFailure, ResponseError, ServiceError}
+use Rattle.smithy_types.specs.declared.fault.SdkError.TheVariants.{ConstructionFailure, TimeoutError, DispatchFailure}
+use Rattle.smithy_types.specs.declared.fault.SdkError.TheVariants.{ResponseError, ServiceError}
 use Rattle.cli_wait.specs.declared.polls.PolledValue.{PolledValue}
 use Rattle.cli_wait.specs.declared.polls.PollResult.{PollResult}
 use Rattle.cli_wait.specs.declared.polls.PollResult.TheVariants.{Output, Service, Timeout}

@@ -9,6 +9,7 @@ use Rattle.cli_wait.specs.declared.notes.Note.TheVariants.{Poll, Sleep}
 use Rattle.cli_wait.specs.declared.ending.WaitEnding.{WaitEnding}
 use Rattle.cli_wait.specs.declared.ending.WaitEnding.TheVariants as endings
 
+-- a line of a print: the compact text of the data and a line feed
 abbrev pub line : Data → List ℕ
 line d = compact_text d ++ 10 ∷ []
 
@@ -26,9 +27,12 @@ notes_text (note ∷ notes) = line (note_data note) ++ notes_text notes
 abbrev pub word_data : List ℕ → Data
 word_data word = row (string word ∷ [])
 
+-- the longest wait, what had elapsed, and how many polls were made
 abbrev pub exceeded_data : ℕ → ℕ → ℕ → Data
-exceeded_data max_wait elapsed poll_count = row (string (codes "ExceededMaxWait") ∷ num max_wait ∷ num elapsed ∷ num poll_count ∷ [])
+exceeded_data max_wait elapsed poll_count =
+    row (string (codes "ExceededMaxWait") ∷ num max_wait ∷ num elapsed ∷ num poll_count ∷ [])
 
+-- how the waiter ended
 unfoldable pub ending_data : WaitEnding → Data
 ending_data (endings.Output payload) = row (string (codes "Ok") ∷ payload_data payload ∷ [])
 ending_data (endings.Service payload) = row (string (codes "Service") ∷ payload_data payload ∷ [])

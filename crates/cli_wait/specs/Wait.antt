@@ -41,6 +41,7 @@ script_says s (refuses refusals.NotBuilt) = ⊥
 -- The bytes are a script and it says this of it, or they are none.
 abbrev pub wait_says : List ℕ → Said → Type 0
 wait_says bytes (prints status text) = (s : WaitScript) × IsScript bytes s × script_says s (prints status text)
-wait_says bytes (refuses refusals.TooLarge) = (s : WaitScript) × IsScript bytes s × script_says s (refuses refusals.TooLarge)
+wait_says bytes (refuses refusals.TooLarge) =
+    (s : WaitScript) × IsScript bytes s × script_says s (refuses refusals.TooLarge)
 wait_says bytes (refuses refusals.BadScript) = (s : WaitScript) → IsScript bytes s → ⊥
 wait_says bytes (refuses refusals.NotBuilt) = ⊥

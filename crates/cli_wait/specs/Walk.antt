@@ -25,7 +25,8 @@ Tells before number (Err error) after = Unit {0}
 
 -- A waiter of these delays walked over the timers, and answered this: each call was a step of the
 -- script's timers, and each poll answered what the script says.
-pub record WalksBy (min max max_wait : ℕ) (old : ScriptedTimers) (fuel : ℕ) (ending : End PolledValue PolledValue) (new : ScriptedTimers) : Type 0 where
+pub record WalksBy (min max max_wait : ℕ) (old : ScriptedTimers) (fuel : ℕ) (ending : End PolledValue PolledValue)
+    (new : ScriptedTimers) : Type 0 where
   pub backoff : Backoff
   pub min_is : backoff.min_delay ≡ min
   pub max_is : backoff.max_delay ≡ max
@@ -33,7 +34,8 @@ pub record WalksBy (min max max_wait : ℕ) (old : ScriptedTimers) (fuel : ℕ) 
   pub waits : Waits backoff Says Makes (λ timers. timers.unready) Tells old fuel ending new
 
 -- A waiter of these delays walked over the timers, and this is how it ended.
-pub record EndsBy (min max max_wait : ℕ) (old : ScriptedTimers) (fuel : ℕ) (ending : WaitEnding) (new : ScriptedTimers) : Type 0 where
+pub record EndsBy (min max max_wait : ℕ) (old : ScriptedTimers) (fuel : ℕ) (ending : WaitEnding)
+    (new : ScriptedTimers) : Type 0 where
   pub answered : End PolledValue PolledValue
   pub walks : WalksBy min max max_wait old fuel answered new
   pub ends : ending_of answered ≡ Some ending

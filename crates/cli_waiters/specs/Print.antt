@@ -13,6 +13,7 @@ use Rattle.waiter_fleet.specs.declared.event.FleetEnd.TheVariants as end
 use Rattle.waiter_fleet.specs.declared.event.FleetEvent.{FleetEvent}
 use Rattle.waiter_fleet.specs.declared.event.FleetEvent.TheVariants.{Poll, Sleep, Charged, Refused, End}
 
+-- a line of a print: the compact text of the data and a line feed
 abbrev pub line : Data → List ℕ
 line d = compact_text d ++ 10 ∷ []
 
@@ -33,6 +34,7 @@ sleep_data waiter nanos = if nanos == 0 then None else Some (row (string (codes 
 unfoldable pub refusal_data : ℕ → ℕ → Data
 refusal_data waiter cost = row (string (codes "refused") ∷ num waiter ∷ num cost ∷ [])
 
+-- the name of how a waiter ended
 unfoldable pub end_name : FleetEnd → List ℕ
 end_name end.Ok = codes "Ok"
 end_name end.OperationFailed = codes "OperationFailed"
@@ -66,6 +68,7 @@ bucket_data sums = row (string (codes "bucket") ∷ num 0 ∷ sums_data sums ∷
 unfoldable pub fleet_text : List FleetEvent → Sums → List ℕ
 fleet_text events sums = events_text events ++ line (bucket_data sums)
 
+-- the waiter found what it waits for
 abbrev pub is_ok : FleetEnd → Bool
 is_ok end.Ok = true
 is_ok end.OperationFailed = false
@@ -82,6 +85,7 @@ is_well (Charged waiter moment) = true
 is_well (Refused waiter cost moment) = true
 is_well (End waiter ending) = is_ok ending
 
+-- the status: Ok where this holds, and else WaiterFailed
 abbrev pub status_by : Bool → PrintStatus
 status_by true = statuses.Ok
 status_by false = statuses.WaiterFailed

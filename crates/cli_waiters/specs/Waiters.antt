@@ -18,7 +18,8 @@ use Rattle.cli_waiters.specs.Print.{came_to, fleet_text}
 -- a book of these terms that nobody has used yet
 abbrev pub book_of : BucketTerms → Book
 book_of b =
-    opening (min b.capacity MAXIMUM_CAPACITY) b.retry_cost b.throttling_retry_cost b.timeout_retry_cost b.success_reward b.refill_rate
+    opening (min b.capacity MAXIMUM_CAPACITY) b.retry_cost b.throttling_retry_cost b.timeout_retry_cost
+    b.success_reward b.refill_rate
 
 -- the polls and sleeps that had to be asked again
 abbrev pub waits_of : ScriptedFleet → ℕ
@@ -42,7 +43,12 @@ pub record IsWaiters (s : WaitersScript) (text : List ℕ) (status : PrintStatus
   pub last : ScriptedFleet
   pub book : Book
   pub events : List FleetEvent
-  pub waits : WaitsAll Does waits_of (record { plans = plans_of s.waiters; book = book_of s.bucket; world = first; fuel = s.fuel }) events book last
+  pub waits : WaitsAll Does waits_of (record {
+    plans = plans_of s.waiters;
+    book = book_of s.bucket;
+    world = first;
+    fuel = s.fuel;
+  }) events book last
   pub text_is : text ≡ fleet_text events (sums_of book)
   pub status_is : status ≡ came_to events
 
@@ -56,6 +62,7 @@ script_says s (refuses refusals.NotBuilt) = ⊥
 -- The bytes are a script and it says this of it, or they are none.
 abbrev pub waiters_says : List ℕ → Said → Type 0
 waiters_says bytes (prints status text) = (s : WaitersScript) × IsScript bytes s × script_says s (prints status text)
-waiters_says bytes (refuses refusals.TooLarge) = (s : WaitersScript) × IsScript bytes s × script_says s (refuses refusals.TooLarge)
+waiters_says bytes (refuses refusals.TooLarge) =
+    (s : WaitersScript) × IsScript bytes s × script_says s (refuses refusals.TooLarge)
 waiters_says bytes (refuses refusals.BadScript) = (s : WaitersScript) → IsScript bytes s → ⊥
 waiters_says bytes (refuses refusals.NotBuilt) = ⊥

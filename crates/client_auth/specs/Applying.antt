@@ -19,7 +19,8 @@ is_refusal _ = true
 abbrev pub AppliesTo : HttpRequest → Endpoint → StandingLayers → Answer → Type 0
 AppliesTo request endpoint settings (answers.Request sent) = IsSent request endpoint (standing_prefix settings) sent
 AppliesTo request endpoint settings (answers.Failed text) =
-    (refusal : EndpointError) × IsTrue (is_refusal refusal) × CantSend request endpoint (standing_prefix settings) refusal × (text ≡ refusal_text refusal)
+    (refusal : EndpointError) × IsTrue (is_refusal refusal)
+    × CantSend request endpoint (standing_prefix settings) refusal × (text ≡ refusal_text refusal)
 AppliesTo request endpoint settings _ = ⊥
 
 -- without a request or an endpoint it is absent

@@ -6,6 +6,7 @@ use Rattle.smithy_context.specs.declared.setting.Setting.{Setting}
 use Rattle.smithy_context.specs.declared.setting.Setting.TheVariants as set
 use Rattle.smithy_context.specs.declared.setting.SettingKey.TheVariants as keys
 
+-- the setting is the mark V2
 abbrev pub is_v2 : Option Setting → Bool
 is_v2 (Some set.V2) = true
 is_v2 _ = false
@@ -14,6 +15,7 @@ is_v2 _ = false
 abbrev pub has_v2 : StandingLayers → Bool
 has_v2 settings = is_v2 (loaded settings keys.V2)
 
+-- the schemes that a setting prefers
 abbrev pub preference_of : Option Setting → Option (List (List ℕ))
 preference_of (Some (set.Preference names)) = Some names
 preference_of _ = None
@@ -22,6 +24,7 @@ preference_of _ = None
 abbrev pub standing_preference : StandingLayers → Option (List (List ℕ))
 standing_preference settings = preference_of (loaded settings keys.Preference)
 
+-- the prefix that a setting has
 abbrev pub prefix_of : Option Setting → Option (List ℕ)
 prefix_of (Some (set.Prefix text)) = Some text
 prefix_of _ = None

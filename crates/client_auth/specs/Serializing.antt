@@ -7,11 +7,14 @@ use Rattle.smithy_types.specs.declared.payload.Payload.{Payload}
 use Rattle.client_auth.specs.declared.serializer.Serialized.{Serialized}
 use Rattle.client_auth.specs.declared.serializer.Serialized.TheVariants.{Request, Failed}
 
+-- what a serializer made of an input, as it is answered
 abbrev pub answer_of : Serialized → Answer
 answer_of (Request request) = answers.Request request
 answer_of (Failed text) = answers.Failed text
 
 -- the serializer's own answer
-abbrev pub Serializes : {Z : Type 0} → (Z → Payload → StandingLayers → Serialized → Type 0) → Z → Option Payload → StandingLayers → Answer → Type 0
+abbrev pub Serializes : {Z : Type 0} → (Z → Payload → StandingLayers → Serialized → Type 0) → Z → Option Payload
+    → StandingLayers → Answer → Type 0
 Serializes says serializer None settings a = a ≡ answers.Absent
-Serializes says serializer (Some input) settings a = (serialized : Serialized) × says serializer input settings serialized × (a ≡ answer_of serialized)
+Serializes says serializer (Some input) settings a =
+    (serialized : Serialized) × says serializer input settings serialized × (a ≡ answer_of serialized)

@@ -1,5 +1,6 @@
 -- Why an answer comes, in the words of what was asked of the outside.
-use Rattle.std.specs.Prelude.{◌≡◌, ◌≢◌, ◌↔◌, ◌⊎◌, ℕ, Bool, true, false, List, [], ◌∷◌, ◌++◌, suc, codes, Option, None, Some, Result, Ok}
+use Rattle.std.specs.Prelude.{◌≡◌, ◌≢◌, ◌↔◌, ◌⊎◌, ℕ, Bool, true, false, List, [], ◌∷◌, ◌++◌, suc, codes, Option, None}
+use Rattle.std.specs.Prelude.{Some, Result, Ok}
 use Rattle.smithy_context.specs.StandingLayers.{StandingLayers}
 use Rattle.smithy_types.specs.declared.http.Body.TheVariants.{Taken}
 use Rattle.smithy_types.specs.declared.http.HttpRequest.{HttpRequest}
@@ -34,7 +35,9 @@ WasMade call calls = (before : List OutsideCall) × (after : List OutsideCall) �
 
 -- a Start is Absent exactly without sleeps
 abbrev pub AbsentWithoutSleeps : Type 0
-AbsentWithoutSleeps = (has : Bool) (role : Role) (nanos : Option ℕ) (old : Sleeps) (a : Answer) (new : Sleeps) (calls : List OutsideCall) →
+AbsentWithoutSleeps =
+    (has : Bool) (role : Role) (nanos : Option ℕ) (old : Sleeps) (a : Answer) (new : Sleeps)
+    (calls : List OutsideCall) →
     Starts has role nanos old a new calls → (a ≡ answers.Absent) ↔ (has ≡ false)
 
 -- a Wait is pending exactly where its sleep was asked and wasn't over
@@ -44,7 +47,8 @@ PendingWhileItRuns = (sleep : Option ℕ) (a : Answer) (calls : List OutsideCall
 
 -- a Load fails exactly where the body's bytes are gone
 abbrev pub FailsWhereTaken : Type 0
-FailsWhereTaken = (request : HttpRequest) → (loaded (Some request) ≡ answers.Failed (codes "body taken")) ↔ (request.body ≡ Taken)
+FailsWhereTaken =
+    (request : HttpRequest) → (loaded (Some request) ≡ answers.Failed (codes "body taken")) ↔ (request.body ≡ Taken)
 
 -- a Load is never pending
 abbrev pub NeverPending : Type 0
@@ -52,7 +56,9 @@ NeverPending = (request : Option HttpRequest) → loaded request ≢ answers.Pen
 
 -- a Transmit is pending only where the connector had no response in this ask
 abbrev pub PendsWithThePoll : Type 0
-PendsWithThePoll = (sleeps : Bool) (settings : StandingLayers) (request : Option HttpRequest) (old : Call) (a : Answer) (new : Call) (calls : List OutsideCall) →
+PendsWithThePoll =
+    (sleeps : Bool) (settings : StandingLayers) (request : Option HttpRequest) (old : Call) (a : Answer) (new : Call)
+    (calls : List OutsideCall) →
     Transmits sleeps settings request old a new calls → a ≡ answers.Pending → WasMade (Poll (Ok sents.Pending)) calls
 
 -- the upload that is watched is over, and its log kept all of it
@@ -68,19 +74,23 @@ IsUploaded _ = Unit {0}
 -- what an ask of Transmit tells
 pub record SendsWell (a : Answer) (new : Call) (calls : List OutsideCall) : Type 0 where
   -- it fails only where the connector did in this ask, as the connector said
-  pub failed : (kind : ConnectorKind) (text : List ℕ) → a ≡ answers.ConnectorFailed kind text → WasMade (Poll (Ok (sents.Failed kind text))) calls
+  pub failed : (kind : ConnectorKind) (text : List ℕ) → a ≡ answers.ConnectorFailed kind text
+      → WasMade (Poll (Ok (sents.Failed kind text))) calls
   -- the upload was read before the request was sent
   pub uploaded : IsUploaded new
 
 -- an upload that is watched never fails a Transmit
 abbrev pub UploadsNeverStall : Type 0
-UploadsNeverStall = (sleeps : Bool) (settings : StandingLayers) (request : Option HttpRequest) (old : Call) (a : Answer) (new : Call) (calls : List OutsideCall) →
+UploadsNeverStall =
+    (sleeps : Bool) (settings : StandingLayers) (request : Option HttpRequest) (old : Call) (a : Answer) (new : Call)
+    (calls : List OutsideCall) →
     Transmits sleeps settings request old a new calls → IsUploaded old → SendsWell a new calls
 
 -- where nothing is open, nothing is ended
 abbrev pub NothingToEnd : Type 0
 NothingToEnd = (sleeps : Sleeps) (call : Call) → AtRest sleeps call → ending_calls sleeps call ≡ []
 
+-- the bytes of a frame of data, and none of any other answer
 abbrev pub answer_data : Result Polled OutOfMemory → List ℕ
 answer_data (Ok (polled.Data bytes)) = bytes
 answer_data _ = []
@@ -123,13 +133,17 @@ IsCounted _ = Unit {0}
 -- what an ask of a body tells of its bytes and its frames
 pub record ReadsAll (old : Call) (a : Answer) (new : Call) (calls : List OutsideCall) : Type 0 where
   -- it is Read with the bytes of all asks, in order, where the body was at its end
-  pub read : (blob : List ℕ) → a ≡ answers.Read blob → (blob ≡ bytes_of old ++ data_of calls) × WasMade (Frame (Ok polled.End)) calls
+  pub read : (blob : List ℕ) → a ≡ answers.Read blob
+      → (blob ≡ bytes_of old ++ data_of calls) × WasMade (Frame (Ok polled.End)) calls
   -- it is pending where there was no frame, or behind 64 frames, and loses no byte
-  pub pending : a ≡ answers.Pending → (bytes_of new ≡ bytes_of old ++ data_of calls) × (WasMade (Frame (Ok polled.Pending)) calls ⊎ (frames_in calls ≡ 64))
+  pub pending : a ≡ answers.Pending → (bytes_of new ≡ bytes_of old ++ data_of calls)
+      × (WasMade (Frame (Ok polled.Pending)) calls ⊎ (frames_in calls ≡ 64))
   -- the guard goes on counting
   pub counted : IsCounted new
 
 -- a body is read whole
 abbrev pub BodiesAreWhole : Type 0
-BodiesAreWhole = (sleeps : Bool) (settings : StandingLayers) (response : Option HttpResponse) (old : Call) (a : Answer) (new : Call) (calls : List OutsideCall) →
+BodiesAreWhole =
+    (sleeps : Bool) (settings : StandingLayers) (response : Option HttpResponse) (old : Call) (a : Answer) (new : Call)
+    (calls : List OutsideCall) →
     Reads sleeps settings response old a new calls → IsCounted old → ReadsAll old a new calls

@@ -17,9 +17,11 @@ use Rattle.smithy_types.specs.declared.polled.Polled.{Polled}
 use Rattle.client_call.specs.declared.guards.Guards.{Guards}
 use Rattle.client_call.specs.Protection.{download_options, enforces_length, standing_stall}
 
+-- the guard that holds a body to its declared length, and is handed the frames
 abbrev pub LengthGuard : Type 0
 LengthGuard = ContentLengthEnforcingBody NoBody
 
+-- the guard that watches whether a body stalls, and is handed the frames
 abbrev pub ThroughputGuard : Type 0
 ThroughputGuard = MinimumThroughputDownloadBody NoBody
 
@@ -32,7 +34,9 @@ HoldsTo (Err fault) made = made ≡ None
 
 -- a length is held to where it is enforced and the response declares one
 abbrev pub GuardsLength : Bool → Option HttpResponse → Option LengthGuard → Type 0
-GuardsLength true (Some response) made = (declared : Result (Option ℕ) LengthFault) × DeclaresLength (lengths response.headers) declared × HoldsTo declared made
+GuardsLength true (Some response) made =
+    (declared : Result (Option ℕ) LengthFault) × DeclaresLength (lengths response.headers) declared
+    × HoldsTo declared made
 GuardsLength true None made = made ≡ None
 GuardsLength false response made = made ≡ None
 
@@ -44,7 +48,8 @@ GuardsThroughput (Some options) (Some made) calls =
     (body : NoBody) × (starting : List TimersCall) × Starts body options made starting × (calls ≡ map OfTimers starting)
 
 -- the guards that these settings set for this response
-pub record SetsUp (settings : StandingLayers) (response : Option HttpResponse) (made : Guards) (calls : List OutsideCall) : Type 0 where
+pub record SetsUp (settings : StandingLayers) (response : Option HttpResponse) (made : Guards)
+    (calls : List OutsideCall) : Type 0 where
   pub length : GuardsLength (enforces_length settings) response made.length
   pub throughput : GuardsThroughput (download_options (standing_stall settings)) made.throughput calls
 
@@ -55,14 +60,16 @@ LengthPasses (Some old) frame passed None = ⊥
 LengthPasses (Some old) frame passed (Some new) = Enforces old frame (Ok passed) new
 
 -- what the guard of the throughput makes of a frame, where there are sleeps or none
-abbrev pub ThroughputPasses : Bool → Option ThroughputGuard → Polled → Polled → Option ThroughputGuard → List OutsideCall → Type 0
+abbrev pub ThroughputPasses : Bool → Option ThroughputGuard → Polled → Polled → Option ThroughputGuard
+    → List OutsideCall → Type 0
 ThroughputPasses sleeps None frame passed new calls = (passed ≡ frame) × (new ≡ None) × (calls ≡ [])
 ThroughputPasses sleeps (Some old) frame passed None calls = ⊥
 ThroughputPasses sleeps (Some old) frame passed (Some new) calls =
     (judging : List TimersCall) × Judges sleeps old frame (Ok passed) new judging × (calls ≡ map OfTimers judging)
 
 -- what the guards make of a frame: that of the length first
-pub record Passes (sleeps : Bool) (old : Guards) (frame passed : Polled) (new : Guards) (calls : List OutsideCall) : Type 0 where
+pub record Passes (sleeps : Bool) (old : Guards) (frame passed : Polled) (new : Guards)
+    (calls : List OutsideCall) : Type 0 where
   pub enforced : Polled
   pub length : LengthPasses old.length frame enforced new.length
   pub throughput : ThroughputPasses sleeps old.throughput enforced passed new.throughput calls
@@ -72,9 +79,11 @@ abbrev pub stopping_guard : Option ThroughputGuard → List OutsideCall
 stopping_guard None = []
 stopping_guard (Some guard) = map OfTimers (give_up_calls guard.grace.sleep)
 
+-- what is given up when the guards are left
 abbrev pub stopping : Guards → List OutsideCall
 stopping guards = stopping_guard guards.throughput
 
+-- the guard without an open sleep
 abbrev pub stopped_guard : Option ThroughputGuard → Option ThroughputGuard
 stopped_guard None = None
 stopped_guard (Some guard) = Some (record guard { grace = record guard.grace { sleep = None } })

@@ -9,14 +9,17 @@ use Rattle.smithy_types.specs.declared.config.StalledStreamProtectionConfig.{Sta
 use Rattle.stream_guard.specs.Options.{default_options}
 use Rattle.stream_guard.specs.declared.options.MinimumThroughputBodyOptions.{MinimumThroughputBodyOptions}
 
+-- which streams a setting says to give up where they stall
 abbrev pub stall_of : Option Setting → Option StalledStreamProtectionConfig
 stall_of (Some (set.Stall config)) = Some config
 stall_of _ = None
 
+-- the setting is the mark that the length is enforced
 abbrev pub is_enforced : Option Setting → Bool
 is_enforced (Some set.EnforceLength) = true
 is_enforced _ = false
 
+-- the setting is the mark that the upload is watched
 abbrev pub is_marked : Option Setting → Bool
 is_marked (Some set.Upload) = true
 is_marked _ = false
@@ -28,7 +31,8 @@ standing_stall settings = stall_of (loaded settings keys.Stall)
 -- when a response's body stalls: it is watched where its protection is on
 abbrev pub download_options : Option StalledStreamProtectionConfig → Option MinimumThroughputBodyOptions
 download_options None = None
-download_options (Some config) = if config.download then Some (record default_options { grace_period = config.grace_period }) else None
+download_options (Some config) =
+    if config.download then Some (record default_options { grace_period = config.grace_period }) else None
 
 -- whether a response's body is held to the length that it declares
 abbrev pub enforces_length : StandingLayers → Bool
@@ -42,4 +46,6 @@ upload_marked settings = is_marked (loaded settings keys.Upload)
 abbrev pub upload_options : Bool → Option StalledStreamProtectionConfig → Option MinimumThroughputBodyOptions
 upload_options marked None = None
 upload_options marked (Some config) =
-    if marked && (config.upload || config.download) then Some (record default_options { grace_period = config.grace_period }) else None
+    if marked && (config.upload || config.download)
+    then Some (record default_options { grace_period = config.grace_period })
+    else None

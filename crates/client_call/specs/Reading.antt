@@ -1,5 +1,6 @@
 -- Body: which frames stand behind an answer, and what becomes of the open body.
-use Rattle.std.specs.Prelude.{◌≡◌, ◌⊎◌, ◌<◌, ℕ, Bool, if◌then◌else◌, List, [], ◌∷◌, ◌++◌, length, codes, Option, None, Some, Ok}
+use Rattle.std.specs.Prelude.{◌≡◌, ◌⊎◌, ◌<◌, ℕ, Bool, if◌then◌else◌, List, [], ◌∷◌, ◌++◌, length, codes, Option, None}
+use Rattle.std.specs.Prelude.{Some, Ok}
 use Rattle.smithy_context.specs.StandingLayers.{StandingLayers}
 use Rattle.smithy_types.specs.Chain.{Chained}
 use Rattle.smithy_types.specs.declared.http.HttpResponse.{HttpResponse}
@@ -17,17 +18,20 @@ use Rattle.client_call.specs.Frames.{gathered, stop_of}
 use Rattle.client_call.specs.Guarding.{Passes, SetsUp, stopping}
 
 -- nothing was read, and the guards are those that are set
-pub record BeginsReading (settings : StandingLayers) (response : Option HttpResponse) (made : OpenBody) (calls : List OutsideCall) : Type 0 where
+pub record BeginsReading (settings : StandingLayers) (response : Option HttpResponse) (made : OpenBody)
+    (calls : List OutsideCall) : Type 0 where
   pub bytes : made.bytes ≡ []
   pub guards : SetsUp settings response made.guards calls
 
 -- a body that came is opened, and any other call stays as it is
 abbrev pub Opens : StandingLayers → Option HttpResponse → Call → Call → List OutsideCall → Type 0
-Opens settings response Arrived new calls = (made : OpenBody) × (new ≡ Reading made) × BeginsReading settings response made calls
+Opens settings response Arrived new calls =
+    (made : OpenBody) × (new ≡ Reading made) × BeginsReading settings response made calls
 Opens settings response old new calls = (new ≡ old) × (calls ≡ [])
 
 -- one frame, which the guards pass, and how the ask stops with it
-pub record Asks (sleeps : Bool) (old : OpenBody) (stop : Option Stop) (new : OpenBody) (calls : List OutsideCall) : Type 0 where
+pub record Asks (sleeps : Bool) (old : OpenBody) (stop : Option Stop) (new : OpenBody)
+    (calls : List OutsideCall) : Type 0 where
   pub frame : Polled
   pub passed : Polled
   pub judging : List OutsideCall
@@ -52,7 +56,8 @@ StopsBehind sleeps count old stop new calls =
     ⊎ ((count ≡ 64) × (stop ≡ stops.Pending) × (new ≡ old) × (calls ≡ []))
 
 -- the frames of one ask
-pub record Runs (sleeps : Bool) (old : OpenBody) (stop : Stop) (new : OpenBody) (calls : List OutsideCall) : Type 0 where
+pub record Runs (sleeps : Bool) (old : OpenBody) (stop : Stop) (new : OpenBody)
+    (calls : List OutsideCall) : Type 0 where
   pub frames : List (List OutsideCall)
   pub before : OpenBody
   pub go_on : Chained (GoesOn sleeps) old frames before
@@ -77,7 +82,8 @@ closing stops.Pending end = []
 closing _ end = stopping end.guards
 
 -- an ask of an open body
-pub record ReadsBody (sleeps : Bool) (old : OpenBody) (a : Answer) (new : Call) (calls : List OutsideCall) : Type 0 where
+pub record ReadsBody (sleeps : Bool) (old : OpenBody) (a : Answer) (new : Call)
+    (calls : List OutsideCall) : Type 0 where
   pub stop : Stop
   pub end : OpenBody
   pub running : List OutsideCall
@@ -91,7 +97,8 @@ ReadsOn sleeps (Reading open_body) a new calls = ReadsBody sleeps open_body a ne
 ReadsOn sleeps old a new calls = (a ≡ answers.Absent) × (new ≡ old) × (calls ≡ [])
 
 -- an ask: the body is opened where it just came, and read on
-pub record Reads (sleeps : Bool) (settings : StandingLayers) (response : Option HttpResponse) (old : Call) (a : Answer) (new : Call) (calls : List OutsideCall) : Type 0 where
+pub record Reads (sleeps : Bool) (settings : StandingLayers) (response : Option HttpResponse) (old : Call) (a : Answer)
+    (new : Call) (calls : List OutsideCall) : Type 0 where
   pub opened : Call
   pub opening : List OutsideCall
   pub opens : Opens settings response old opened opening

@@ -35,9 +35,11 @@ giving_up (Some sleep) = OfTimers (GiveUp sleep) ∷ []
 
 -- the open sleep of each role is given up
 abbrev pub give_up_all : Sleeps → List OutsideCall
-give_up_all s = giving_up s.operation ++ (giving_up s.attempt ++ (giving_up s.send ++ (giving_up s.retry ++ giving_up s.long_poll)))
+give_up_all s =
+    giving_up s.operation ++ (giving_up s.attempt ++ (giving_up s.send ++ (giving_up s.retry ++ giving_up s.long_poll)))
 
--- Absent without sleeps; a length that was not handed is 0; else the role's former sleep is given up and another started
+-- Absent without sleeps; a length that was not handed is 0;
+-- else the role's former sleep is given up and another started
 abbrev pub Starts : Bool → Role → Option ℕ → Sleeps → Answer → Sleeps → List OutsideCall → Type 0
 Starts has role nanos old answers.Absent new calls = (has ≡ false) × (new ≡ old) × (calls ≡ [])
 Starts has role nanos old answers.Started new calls = (has ≡ true)

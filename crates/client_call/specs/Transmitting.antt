@@ -24,7 +24,8 @@ WatchesMaybe (Some options) request None calls = ⊥
 WatchesMaybe (Some options) request (Some upload) calls = Watches options (body_bytes request.body) upload calls
 
 -- the guards of a body that is open give their sleep up, the upload is watched where it is set, and the request is sent
-pub record BeginsAnew (settings : StandingLayers) (request : HttpRequest) (old : Call) (upload : Option Upload) (calls : List OutsideCall) : Type 0 where
+pub record BeginsAnew (settings : StandingLayers) (request : HttpRequest) (old : Call) (upload : Option Upload)
+    (calls : List OutsideCall) : Type 0 where
   pub watching : List OutsideCall
   pub watches : WatchesMaybe (upload_options (upload_marked settings) (standing_stall settings)) request upload watching
   pub calls_are : calls ≡ quieting old ++ (watching ++ Begin request settings (Ok tt) ∷ [])
@@ -40,7 +41,8 @@ StallsAs None upload a new = (a ≡ answers.Pending) × (new ≡ Sending (Some u
 StallsAs (Some fault) upload a new = (a ≡ answers.ConnectorFailed Timeout fault.text) × (new ≡ Left)
 
 -- a look at the upload, behind a poll that was pending
-pub record PendsWatched (sleeps : Bool) (upload : Upload) (a : Answer) (new : Call) (calls : List OutsideCall) : Type 0 where
+pub record PendsWatched (sleeps : Bool) (upload : Upload) (a : Answer) (new : Call)
+    (calls : List OutsideCall) : Type 0 where
   pub fault : Option Fault
   pub looked : Upload
   pub looks : Looks sleeps upload fault looked calls
@@ -54,11 +56,14 @@ Pends sleeps (Some upload) a new calls = PendsWatched sleeps upload a new calls
 -- the answer is the connector's
 abbrev pub SentAs : Bool → Option Upload → Sent → Answer → Call → List OutsideCall → Type 0
 SentAs sleeps upload sents.Pending a new calls = Pends sleeps upload a new calls
-SentAs sleeps upload (sents.Response response) a new calls = (a ≡ answers.Response response) × (new ≡ Arrived) × (calls ≡ [])
-SentAs sleeps upload (sents.Failed kind text) a new calls = (a ≡ answers.ConnectorFailed kind text) × (new ≡ Idle) × (calls ≡ [])
+SentAs sleeps upload (sents.Response response) a new calls =
+    (a ≡ answers.Response response) × (new ≡ Arrived) × (calls ≡ [])
+SentAs sleeps upload (sents.Failed kind text) a new calls =
+    (a ≡ answers.ConnectorFailed kind text) × (new ≡ Idle) × (calls ≡ [])
 
 -- the connector is asked once, behind the beginning of the call where it isn't under way
-pub record Sends (sleeps : Bool) (settings : StandingLayers) (request : HttpRequest) (old : Call) (a : Answer) (new : Call) (calls : List OutsideCall) : Type 0 where
+pub record Sends (sleeps : Bool) (settings : StandingLayers) (request : HttpRequest) (old : Call) (a : Answer)
+    (new : Call) (calls : List OutsideCall) : Type 0 where
   pub upload : Option Upload
   pub beginning : List OutsideCall
   pub begins : Begins settings request old upload beginning

@@ -46,7 +46,8 @@ came_calls [] now = []
 came_calls (b ∷ bs) now = Now now ∷ []
 
 -- a body of these bytes was read to its end, and is watched from the start on
-pub record Watches (options : MinimumThroughputBodyOptions) (bytes : List ℕ) (made : Upload) (calls : List OutsideCall) : Type 0 where
+pub record Watches (options : MinimumThroughputBodyOptions) (bytes : List ℕ) (made : Upload)
+    (calls : List OutsideCall) : Type 0 where
   pub start : ℕ
   pub now : ℕ
   pub started : made.log.start ≡ start
@@ -57,7 +58,8 @@ pub record Watches (options : MinimumThroughputBodyOptions) (bytes : List ℕ) (
   pub calls_are : calls ≡ map OfTimers (Now start ∷ came_calls bytes now)
 
 -- a look at the upload
-pub record Looks (sleeps : Bool) (old : Upload) (fault : Option Fault) (new : Upload) (calls : List OutsideCall) : Type 0 where
+pub record Looks (sleeps : Bool) (old : Upload) (fault : Option Fault) (new : Upload)
+    (calls : List OutsideCall) : Type 0 where
   pub checking : List TimersCall
   pub checks : Checks sleeps old.check old.log (Ok fault) new.check new.log checking
   pub calls_are : calls ≡ map OfTimers checking

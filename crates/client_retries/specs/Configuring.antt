@@ -7,9 +7,11 @@ use Rattle.run_grammar.specs.declared.kind.ConfigureStage.TheVariants.{Client, O
 use Rattle.smithy_context.specs.declared.layer.LayerEntry.{LayerEntry}
 use Rattle.client_retries.specs.declared.configure.CacheNeeds.{CacheNeeds}
 
+-- why a lazy cache of identities is refused without a time source
 unfoldable pub no_time_source : List ℕ
 no_time_source = codes "Lazy identity caching requires a time source to be configured. Set a time source using the `time_source` method on config. If this isn't possible, then disable identity caching by calling the `identity_cache` method on config with `IdentityCache::no_cache()`"
 
+-- why a lazy cache of identities is refused without sleeps
 unfoldable pub no_sleep : List ℕ
 no_sleep = codes "Lazy identity caching requires an async sleep implementation to be configured. Set a sleep impl using the `sleep_impl` method on config. If this isn't possible, then disable identity caching by calling the `identity_cache` method on config with `IdentityCache::no_cache()`"
 

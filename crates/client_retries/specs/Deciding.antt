@@ -1,5 +1,6 @@
 -- Decide.
-use Rattle.std.specs.Prelude.{◌≡◌, ◌⊎◌, ℕ, Bool, IsSome, IsTrue, ◌↔◌, List, [], ◌∷◌, ◌++◌, Option, None, Some, option_map}
+use Rattle.std.specs.Prelude.{◌≡◌, ◌⊎◌, ℕ, Bool, IsSome, IsTrue, ◌↔◌, List, [], ◌∷◌, ◌++◌, Option, None, Some}
+use Rattle.std.specs.Prelude.{option_map}
 use Rattle.outside.specs.Calls.{OutsideCall, Word}
 use Rattle.outside.specs.Clock.{clock_calls}
 use Rattle.retry_policy.specs.Decision.{Decides}
@@ -20,6 +21,7 @@ use Rattle.client_retries.specs.Strategies.{held_by}
 use Rattle.client_retries.specs.declared.strategy.RetryStrategy.{RetryStrategy}
 use Rattle.client_retries.specs.declared.strategy.RetryStrategy.TheVariants.{Never, Standard}
 
+-- a choice, or no further attempt after a pause where there is one
 abbrev pub paused_for : Choice → Option ℕ → Choice
 paused_for choice None = choice
 paused_for choice (Some nanos) = NoAfter nanos
@@ -35,12 +37,15 @@ sums_in m (Some bucket) = option_map sums_of (book_at m bucket)
 
 module _ {Q P L : Type 0} (means : QuotaMeans Q P L) where
   -- what is decided on a verdict at a moment with a word; it is absent exactly where a setting is missing
-  abbrev pub DecidesSo : RetryAction → Option ℕ → ℕ → InterceptorContext → StandardRetryStrategy P → Q → Answer → StandardRetryStrategy P → Q → Type 0
+  abbrev pub DecidesSo : RetryAction → Option ℕ → ℕ → InterceptorContext → StandardRetryStrategy P → Q → Answer
+      → StandardRetryStrategy P → Q → Type 0
   DecidesSo verdict now word c old q answers.Absent new after =
-      IsTrue (lacks_setting c.view.settings now (means.meaning q).has) × (new ≡ old) × IsKept (means.meaning q) (means.meaning after)
+      IsTrue (lacks_setting c.view.settings now (means.meaning q).has) × (new ≡ old)
+      × IsKept (means.meaning q) (means.meaning after)
   DecidesSo verdict now word c old q (answers.Decided choice (Some note)) new after =
       (decision : Decision)
-      × Decides means.limiters (means.meaning q) c.view.settings c verdict now word (held_by means old) decision (held_by means new) (means.meaning after)
+      × Decides means.limiters (means.meaning q) c.view.settings c verdict now word (held_by means old) decision
+      (held_by means new) (means.meaning after)
       × (choice ≡ paused decision)
       × (note ≡ record {
         verdict = verdict;
@@ -52,7 +57,9 @@ module _ {Q P L : Type 0} (means : QuotaMeans Q P L) where
   DecidesSo verdict now word c old q _ new after = ⊥
 
   -- the clock is asked where there is a time source, a word is drawn, and then the strategy decides
-  pub record StandardDecides (verdict : RetryAction) (time_source : Bool) (c : InterceptorContext) (old : StandardRetryStrategy P) (q : Q) (a : Answer) (new : StandardRetryStrategy P) (calls : List OutsideCall) (after : Q) : Type 0 where
+  pub record StandardDecides (verdict : RetryAction) (time_source : Bool) (c : InterceptorContext)
+      (old : StandardRetryStrategy P) (q : Q) (a : Answer) (new : StandardRetryStrategy P) (calls : List OutsideCall)
+      (after : Q) : Type 0 where
     pub now : Option ℕ
     pub word : ℕ
     pub known : IsSome now ↔ IsTrue time_source
@@ -60,7 +67,8 @@ module _ {Q P L : Type 0} (means : QuotaMeans Q P L) where
     pub decides : DecidesSo verdict now word c old q a new after
 
   -- a strategy that never retries says so without a note, and asks nothing
-  abbrev pub IsDecided : RetryAction → Bool → InterceptorContext → RetryStrategy P → Q → Answer → RetryStrategy P → List OutsideCall → Q → Type 0
+  abbrev pub IsDecided : RetryAction → Bool → InterceptorContext → RetryStrategy P → Q → Answer → RetryStrategy P
+      → List OutsideCall → Q → Type 0
   IsDecided verdict time_source c (Never never) q a new calls after =
       (a ≡ answers.Decided No None) × (new ≡ Never never) × (calls ≡ []) × (after ≡ q)
   IsDecided verdict time_source c (Standard standard) q a new calls after =
@@ -68,11 +76,13 @@ module _ {Q P L : Type 0} (means : QuotaMeans Q P L) where
       × StandardDecides verdict time_source c standard q a kept calls after
 
   -- where memory is wanting, nothing was decided, or the note of what was decided is lost
-  abbrev pub StopsDeciding : RetryAction → InterceptorContext → StandardRetryStrategy P → Q → StandardRetryStrategy P → Q → Type 0
+  abbrev pub StopsDeciding : RetryAction → InterceptorContext → StandardRetryStrategy P → Q → StandardRetryStrategy P
+      → Q → Type 0
   StopsDeciding verdict c old q new after =
       ((new ≡ old) × IsKept (means.meaning q) (means.meaning after))
       ⊎ ((now : Option ℕ) × (word : ℕ) × (decision : Decision)
-      × Decides means.limiters (means.meaning q) c.view.settings c verdict now word (held_by means old) decision (held_by means new) (means.meaning after))
+      × Decides means.limiters (means.meaning q) c.view.settings c verdict now word (held_by means old) decision
+      (held_by means new) (means.meaning after))
 
   -- a strategy that never retries wants none
   abbrev pub DecisionStops : RetryAction → InterceptorContext → RetryStrategy P → Q → RetryStrategy P → Q → Type 0

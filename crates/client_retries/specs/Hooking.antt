@@ -1,5 +1,6 @@
 -- Hook.
-use Rattle.std.specs.Prelude.{◌≡◌, ◌⊎◌, ℕ, Bool, true, false, if◌then◌else◌, List, [], ◌∷◌, Option, None, Some, option_and_then}
+use Rattle.std.specs.Prelude.{◌≡◌, ◌⊎◌, ℕ, Bool, true, false, if◌then◌else◌, List, [], ◌∷◌, Option, None, Some}
+use Rattle.std.specs.Prelude.{option_and_then}
 use Rattle.outside.specs.Calls.{OutsideCall, Poison}
 use Rattle.retry_policy.specs.Interceptors.{is_after_deserialization}
 use Rattle.retry_quota.specs.Calls.{Calls}
@@ -34,6 +35,7 @@ is_operations _ = false
 abbrev pub seen_context : HookView → InterceptorContext
 seen_context view = view_of (record view { input = None }) AfterDeserialization
 
+-- the number of the attempt that the setting Poisoned names
 abbrev pub number_of : Option Setting → Option ℕ
 number_of (Some (set.Poisoned number)) = Some number
 number_of _ = None
@@ -42,6 +44,7 @@ number_of _ = None
 abbrev pub poisoned_in : List LayerEntry → Option ℕ
 poisoned_in layer = number_of (option_and_then (λ v. v) (mentioned layer keys.Poisoned))
 
+-- the outside is told not to use the connection of this attempt again
 abbrev pub poison_calls : Option ℕ → List OutsideCall
 poison_calls None = []
 poison_calls (Some number) = Poison number ∷ []
@@ -52,13 +55,16 @@ poisoning hook answer = if is_after_deserialization hook then poison_calls (pois
 
 module _ {Q P L I : Type 0} (quota : QuotaMeans Q P L) (chain : InterceptorMeans I) where
   -- what is found and offered right before the chain runs
-  pub record Offers (verdict : RetryAction) (hook : Hook) (view : HookView) (old : List I) (q : Q) (new : List I) (after : Q) : Type 0 where
+  pub record Offers (verdict : RetryAction) (hook : Hook) (view : HookView) (old : List I) (q : Q) (new : List I)
+      (after : Q) : Type 0 where
     pub number : ℕ
-    pub found : Chained (Calls quota.limiters) (quota.meaning q) (finding hook view.settings number) (quota.meaning after)
+    pub found : Chained (Calls quota.limiters) (quota.meaning q)
+        (finding hook view.settings number) (quota.meaning after)
     pub chain_is : new ≡ offered chain hook view.settings number verdict old
 
   -- a client's hook: what is offered, and then the chain
-  pub record RunsHook (verdict : RetryAction) (hook : Hook) (view : HookView) (old : List I) (q : Q) (a : Answer) (new : List I) (calls : List OutsideCall) (after : Q) : Type 0 where
+  pub record RunsHook (verdict : RetryAction) (hook : Hook) (view : HookView) (old : List I) (q : Q) (a : Answer)
+      (new : List I) (calls : List OutsideCall) (after : Q) : Type 0 where
     pub before : List I
     pub offers : Offers verdict hook view old q before after
     pub answer : HookAnswer
@@ -72,8 +78,10 @@ module _ {Q P L I : Type 0} (quota : QuotaMeans Q P L) (chain : InterceptorMeans
       ((is_operations hook ≡ true) × (a ≡ Hooked no_answer) × (new ≡ old) × (calls ≡ []) × (after ≡ q))
       ⊎ ((is_operations hook ≡ false) × RunsHook verdict hook view old q a new calls after)
 
-  -- where memory is wanting: nothing was offered yet, or all was, and some of the chain, from its left end on, had their turns
+  -- where memory is wanting: nothing was offered yet, or all was, and some of the chain,
+  -- from its left end on, had their turns
   abbrev pub Stops : RetryAction → Hook → HookView → List I → Q → List I → Q → Type 0
   Stops verdict hook view old q new after =
       ((new ≡ old) × IsKept (quota.meaning q) (quota.meaning after))
-      ⊎ ((before : List I) × Offers verdict hook view old q before after × RunsInPart chain.names chain.hooks chain.runs hook view before new)
+      ⊎ ((before : List I) × Offers verdict hook view old q before after
+      × RunsInPart chain.names chain.hooks chain.runs hook view before new)

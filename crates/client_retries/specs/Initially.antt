@@ -15,6 +15,7 @@ use Rattle.client_retries.specs.Meanings.{QuotaMeans}
 use Rattle.client_retries.specs.declared.strategy.RetryStrategy.{RetryStrategy}
 use Rattle.client_retries.specs.declared.strategy.RetryStrategy.TheVariants.{Never, Standard}
 
+-- whether the attempt is made, as it is answered
 abbrev pub answer_of : Initial → Answer
 answer_of initial.Go = answers.Go
 answer_of initial.No = answers.No
@@ -29,13 +30,17 @@ BeginsSo means m settings now (answers.Delay nanos) n = Begins means m settings 
 BeginsSo means m settings now _ n = ⊥
 
 -- the clock is asked where there is a time source, and then the strategy
-pub record AsksStrategy {Q P L : Type 0} (means : QuotaMeans Q P L) (time_source : Bool) (settings : StandingLayers) (q : Q) (a : Answer) (calls : List OutsideCall) (after : Q) : Type 0 where
+pub record AsksStrategy {Q P L : Type 0} (means : QuotaMeans Q P L) (time_source : Bool) (settings : StandingLayers)
+    (q : Q) (a : Answer) (calls : List OutsideCall) (after : Q) : Type 0 where
   pub now : Option ℕ
   pub known : IsSome now ↔ IsTrue time_source
   pub calls_are : calls ≡ clock_calls now
   pub begins : BeginsSo means.limiters (means.meaning q) settings now a (means.meaning after)
 
 -- a strategy that never retries begins at once; none is changed by this
-abbrev pub Begun : {Q P L : Type 0} → QuotaMeans Q P L → Bool → StandingLayers → RetryStrategy P → Q → Answer → RetryStrategy P → List OutsideCall → Q → Type 0
-Begun means time_source settings (Never never) q a new calls after = (a ≡ answers.Go) × (new ≡ Never never) × (calls ≡ []) × (after ≡ q)
-Begun means time_source settings (Standard standard) q a new calls after = (new ≡ Standard standard) × AsksStrategy means time_source settings q a calls after
+abbrev pub Begun : {Q P L : Type 0} → QuotaMeans Q P L → Bool → StandingLayers → RetryStrategy P → Q → Answer
+    → RetryStrategy P → List OutsideCall → Q → Type 0
+Begun means time_source settings (Never never) q a new calls after =
+    (a ≡ answers.Go) × (new ≡ Never never) × (calls ≡ []) × (after ≡ q)
+Begun means time_source settings (Standard standard) q a new calls after =
+    (new ≡ Standard standard) × AsksStrategy means time_source settings q a calls after

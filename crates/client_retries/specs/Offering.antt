@@ -16,6 +16,7 @@ abbrev pub spec_of : Option RetryConfig → Option RetrySpec
 spec_of None = None
 spec_of (Some retry) = retry.spec
 
+-- the specification in the retry configuration that stands
 abbrev pub standing_spec : StandingLayers → Option RetrySpec
 standing_spec settings = spec_of (standing_retry settings)
 
@@ -27,7 +28,8 @@ finding_bucket (Some partition) spec number = FoundBucket partition spec number 
 -- before the retry loop the bucket of the standing partition is found
 abbrev pub finding : Hook → StandingLayers → ℕ → List QuotaCall
 finding hook settings number =
-    if is_before_retry_loop hook then finding_bucket (standing_partition settings) (standing_spec settings) number else []
+    if is_before_retry_loop hook then finding_bucket (standing_partition settings) (standing_spec settings) number
+    else []
 
 module _ {I : Type 0} (means : InterceptorMeans I) where
   -- the bucket is offered where a partition stands; else the last offer stays

@@ -18,6 +18,7 @@ abbrev pub is_naming : Hook → Bool
 is_naming hooks.ModifyBeforeRetryLoop = true
 is_naming _ = false
 
+-- the hook writes the request with the header, or fails with the reason
 abbrev pub answer_of : Signed → HookAnswer
 answer_of (Request request) = writes_request request
 answer_of (Failed text) = record no_answer { failure = Some text }

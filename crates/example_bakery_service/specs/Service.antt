@@ -9,6 +9,7 @@ use Rattle.smithy_types.specs.declared.http.HttpRequest.{HttpRequest}
 use Rattle.smithy_types.specs.declared.http.HttpResponse.{HttpResponse}
 use Rattle.smithy_types.specs.declared.payload.Payload.{Payload}
 
+-- the request that posts an input to this path
 abbrev pub posted : List ℕ → Payload → HttpRequest
 posted path input = record { method = codes "POST"; uri = path; headers = []; body = Bytes input.bytes }
 
@@ -20,5 +21,9 @@ is_modelled status = (status == 404) || (status == 429)
 abbrev pub read_outcome : ℕ → HttpResponse → Outcome
 read_outcome kind response =
     if response.status == 200 then Output (record { kind = kind; bytes = body_bytes response.body })
-    else if is_modelled response.status then Failed (record { kind = fault.Operation (record { kind = 3; bytes = body_bytes response.body }); text = codes "refused by the bakery" })
+    else if is_modelled response.status
+    then Failed (record {
+      kind = fault.Operation (record { kind = 3; bytes = body_bytes response.body });
+      text = codes "refused by the bakery";
+    })
     else Failed (record { kind = fault.Response; text = codes "unknown status" })

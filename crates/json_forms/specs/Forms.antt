@@ -1,5 +1,6 @@
 -- Words, tags and bytes, as JSON spells them.
-use Rattle.std.specs.Prelude.{ℕ, suc, List, Bool, true, false, ◌&&◌, ◌||◌, ◌==◌, Option, Some, None, Result, Ok, Err, codes, find, nat_le, nat_eq, option_map, if◌then◌else◌}
+use Rattle.std.specs.Prelude.{ℕ, suc, List, Bool, true, false, ◌&&◌, ◌||◌, ◌==◌, Option, Some, None, Result, Ok, Err}
+use Rattle.std.specs.Prelude.{codes, find, nat_le, nat_eq, option_map, if◌then◌else◌}
 use Rattle.std.specs.Cmp.Lexicographic.{pointwise}
 use Rattle.std.specs.List.{list_all}
 use Rattle.hex.specs.Hex.{decode_of}
@@ -16,6 +17,7 @@ unfoldable pub says : List ℕ → Data → Bool
 says word (string s) = pointwise nat_eq s word
 says word _ = false
 
+-- the first item is this word
 unfoldable pub first_says : List ℕ → Items → Bool
 first_says word (item d ds) = says word d
 first_says word no_items = false
@@ -25,9 +27,11 @@ unfoldable pub starts : List ℕ → Data → Bool
 starts word (array ds) = first_says word ds
 starts word _ = false
 
+-- whether a text is this word, as a reading
 abbrev pub same_word : List ℕ → List ℕ → Option (Unit {0})
 same_word word s = if pointwise nat_eq s word then Some tt else None
 
+-- this word as a text
 unfoldable pub word_at : List ℕ → Data → Option (Unit {0})
 word_at word d = as_str d >>= same_word word
 
@@ -48,13 +52,16 @@ optional_at f d = option_map Some (f d)
 
 -- ---- marks, lists of texts
 
+-- the one value that a mark may have
 abbrev pub only_true : Bool → Option (Unit {0})
 only_true true = Some tt
 only_true false = None
 
+-- a mark: the value true
 unfoldable pub true_at : Data → Option (Unit {0})
 true_at d = as_bool d >>= only_true
 
+-- an array of texts
 unfoldable pub texts_at : Data → Option (List (List ℕ))
 texts_at d = as_array d >>= list_of as_str
 
@@ -64,6 +71,7 @@ texts_at d = as_array d >>= list_of as_str
 unfoldable pub is_lower_digit : ℕ → Bool
 is_lower_digit b = (nat_le 48 b && nat_le b 57) || (nat_le 97 b && nat_le b 102)
 
+-- the value of a success, if it is one
 abbrev pub ok_of : {X E : Type 0} → Result X E → Option X
 ok_of (Ok x) = Some x
 ok_of (Err e) = None
@@ -72,10 +80,12 @@ ok_of (Err e) = None
 unfoldable pub hex_bytes : List ℕ → Option (List ℕ)
 hex_bytes s = if list_all is_lower_digit s then ok_of (decode_of s) else None
 
+-- how many members there are
 abbrev pub member_count : Members → ℕ
 member_count no_members = 0
 member_count (member k d ms) = suc (member_count ms)
 
+-- there is exactly one member
 abbrev pub one_member : Members → Option (Unit {0})
 one_member ms = if member_count ms == 1 then Some tt else None
 

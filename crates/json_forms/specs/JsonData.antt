@@ -5,6 +5,7 @@ use Rattle.serde_json.specs.View.{view}
 use Rattle.json_forms.specs.declared.printing.Json.{Json}
 use Rattle.json_forms.specs.declared.printing.Row.{Row}
 
+-- the data that this JSON stands for
 abbrev pub data_of : Json → Data
 data_of j = view j.value
 

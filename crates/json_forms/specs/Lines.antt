@@ -1,8 +1,10 @@
 -- Texts of several lines, each of which is JSON data.
-use Rattle.std.specs.Prelude.{ℕ, List, [], ◌∷◌, ◌++◌, Bool, ◌&&◌, nat_le, Option, Some, option_map, option_and_then, map, flat_map, IsUtf8, ⊤}
+use Rattle.std.specs.Prelude.{ℕ, List, [], ◌∷◌, ◌++◌, Bool, ◌&&◌, nat_le, Option, Some, option_map, option_and_then}
+use Rattle.std.specs.Prelude.{map, flat_map, IsUtf8, ⊤}
 use Rattle.std.specs.List.{list_all}
 use Rattle.std.specs.Str.Lines.{lines}
-use Rattle.serde_json.specs.Data.{Data, null, boolean, number, string, array, object, Items, no_items, item, Members, no_members, member, depth}
+use Rattle.serde_json.specs.Data.{Data, null, boolean, number, string, array, object, Items, no_items, item, Members}
+use Rattle.serde_json.specs.Data.{no_members, member, depth}
 use Rattle.serde_json.specs.Read.{read, max_depth}
 use Rattle.serde_json.specs.Written.{compact_text}
 use Rattle.json_forms.specs.Carried.{is_carried}
@@ -11,12 +13,15 @@ use Rattle.json_forms.specs.Carried.{is_carried}
 abbrev pub is_readable : Data → Bool
 is_readable d = is_carried d && nat_le (depth d) max_depth
 
+-- all of these can be carried and read
 abbrev pub are_readable : List Data → Bool
 are_readable ds = list_all is_readable ds
 
+-- the compact text of the data and a line feed
 abbrev pub line : Data → List ℕ
 line d = compact_text d ++ 10 ∷ []
 
+-- the lines of all of these, one after another
 abbrev pub lines_text : List Data → List ℕ
 lines_text ds = flat_map line ds
 
@@ -35,6 +40,7 @@ is_visible b = nat_le 32 b
 
 -- Each string is of characters.
 abbrev mutual
+  -- each string and each key of the data is UTF-8
   pub HasTexts : Data → Type 0
   HasTexts null = ⊤
   HasTexts (boolean b) = ⊤
@@ -43,14 +49,17 @@ abbrev mutual
   HasTexts (array ds) = ItemsHaveTexts ds
   HasTexts (object ms) = MembersHaveTexts ms
 
+  -- so is each string and key in the items
   pub ItemsHaveTexts : Items → Type 0
   ItemsHaveTexts no_items = ⊤
   ItemsHaveTexts (item d ds) = HasTexts d × ItemsHaveTexts ds
 
+  -- so is each key of the members, and each string and key in their values
   pub MembersHaveTexts : Members → Type 0
   MembersHaveTexts no_members = ⊤
   MembersHaveTexts (member k d ms) = IsUtf8 k × HasTexts d × MembersHaveTexts ms
 
+-- each of these data has strings and keys of UTF-8 alone
 abbrev pub AllHaveTexts : List Data → Type 0
 AllHaveTexts [] = ⊤
 AllHaveTexts (d ∷ ds) = HasTexts d × AllHaveTexts ds

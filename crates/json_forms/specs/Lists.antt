@@ -21,6 +21,7 @@ fresh before (n ∷ ns) = not (list_any (pointwise nat_eq n) before) && fresh (b
 unfoldable pub name_at : Data → Option (List ℕ)
 name_at d = pair_at d >>= λ p. as_str p.0
 
+-- none of the names stands twice
 abbrev pub once : List (List ℕ) → Option (Unit {0})
 once ns = if fresh [] ns then Some tt else None
 

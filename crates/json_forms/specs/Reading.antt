@@ -4,6 +4,7 @@ use Rattle.json_forms.specs.declared.read.ReadError.{ReadError}
 use Rattle.json_forms.specs.declared.read.ReadError.TheVariants.{Memory, Refused}
 
 infixl 10 ◌>>=◌
+-- a reading and one that goes on with what it gave: there is none where either gives none
 abbrev pub ◌>>=◌ : {A B : Type 0} → Option A → (A → Option B) → Option B
 (Some x) >>= f = f x
 None >>= f = None
@@ -18,5 +19,6 @@ abbrev pub Gives : {X Y : Type 0} → (X → Y) → Result X ReadError → Optio
 Gives view (Ok x) reading = reading ≡ Some (view x)
 Gives view (Err e) reading = Fails e reading
 
+-- what was answered is the reading, unless memory ran out
 abbrev pub Reads : {X : Type 0} → Result X ReadError → Option X → Type 0
 Reads result reading = Gives (λ x. x) result reading

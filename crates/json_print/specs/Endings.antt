@@ -23,9 +23,11 @@ output_ending kind p = if p.kind == kind then endings.Output p else endings.Wron
 
 -- an error of the service is of the kind that is looked for
 abbrev pub error_ending : ℕ → SdkError Payload → Ending
-error_ending kind (errors.ServiceError p r) = if p.kind == kind then endings.Error (errors.ServiceError p r) else endings.WrongType p
+error_ending kind (errors.ServiceError p r) = if p.kind == kind then endings.Error (errors.ServiceError p r)
+    else endings.WrongType p
 error_ending kind e = endings.Error e
 
+-- the ending of a run that answered an error; there is none where memory ran out
 abbrev pub failed_ending : ℕ → InvokeError Payload → Option Ending
 failed_ending kind (invoke_errors.Sdk e) = Some (error_ending kind e)
 failed_ending kind invoke_errors.Unfinished = Some endings.Unfinished
@@ -49,9 +51,12 @@ stopped_ending_of s (Err e) = failed_ending s.error_kind e
 
 -- The log grew by a run of the operation, and this is its ending.
 abbrev pub EndsBy : RunHead → StopPoint → List Entry → List Entry → Ending → Type 0
-EndsBy s stops.None before log e = (r : Result Payload (InvokeError Payload)) × PayloadAnswered s.input s.fuel r before log × (ending_of s r ≡ Some e)
+EndsBy s stops.None before log e =
+    (r : Result Payload (InvokeError Payload)) × PayloadAnswered s.input s.fuel r before log × (ending_of s r ≡ Some e)
 EndsBy s stops.BeforeTransmit before log e =
-    (r : Result InterceptorContext (InvokeError Payload)) × ContextAnswered s.input stops.BeforeTransmit s.fuel r before log × (stopped_ending_of s r ≡ Some e)
+    (r : Result InterceptorContext (InvokeError Payload))
+    × ContextAnswered s.input stops.BeforeTransmit s.fuel r before log × (stopped_ending_of s r ≡ Some e)
 
+-- the log grew by a run to the stop point of its head, and this is its ending
 abbrev pub Ends : RunHead → List Entry → List Entry → Ending → Type 0
 Ends s before log e = EndsBy s s.stop before log e

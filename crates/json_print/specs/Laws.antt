@@ -18,7 +18,9 @@ use Rattle.json_print.specs.declared.head.RunHead.{RunHead}
 
 -- A run that ends at its stop point leaves a request.
 abbrev pub StoppedWithRequest : Type 0
-StoppedWithRequest = (head : RunHead) (log : List Entry) (request : Option HttpRequest) → Ends head [] log (endings.Stopped request) → is_some request ≡ true
+StoppedWithRequest =
+    (head : RunHead) (log : List Entry) (request : Option HttpRequest) → Ends head [] log (endings.Stopped request)
+    → is_some request ≡ true
 
 -- the line of an entry has four parts, of which the last is the request that was handed
 abbrev pub ShowsRequest : ℕ → Entry → Type 0
@@ -26,5 +28,7 @@ ShowsRequest n e = (request : HttpRequest) × (entry_data n e ≡ row (entry_par
 
 -- each Transmit of a list that begins a run, once it isn't pending
 abbrev pub TransmitsShowRequests : Type 0
-TransmitsShowRequests = (stop : StopPoint) (p : Payload) (before : List Entry) (e : Entry) (n : ℕ) → Begins stop (start p) (before ++ e ∷ []) →
+TransmitsShowRequests =
+    (stop : StopPoint) (p : Payload) (before : List Entry) (e : Entry) (n : ℕ) →
+    Begins stop (start p) (before ++ e ∷ []) →
     kind_of e ≡ kinds.Transmit → (e.answer ≡ answers.Pending → ⊥) → ShowsRequest n e

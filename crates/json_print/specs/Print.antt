@@ -19,17 +19,21 @@ use Rattle.json_print.specs.declared.ending.Ending.{Ending}
 use Rattle.json_print.specs.declared.ending.Ending.TheVariants as endings
 use Rattle.json_print.specs.declared.head.RunHead.{RunHead}
 
+-- a line of a print: the compact text of the data and a line feed
 abbrev pub line : Data → List ℕ
 line d = compact_text d ++ 10 ∷ []
 
+-- the first line: the input, the stop point, the kinds of outputs and errors, and the fuel
 unfoldable pub begin_data : RunHead → Data
-begin_data s = row (string (codes "begin") ∷ payload_data s.input ∷ string (stop_text s.stop) ∷ num s.output_kind ∷ num s.error_kind ∷ num s.fuel ∷ [])
+begin_data s = row (string (codes "begin") ∷ payload_data s.input ∷ string (stop_text s.stop) ∷ num s.output_kind
+    ∷ num s.error_kind ∷ num s.fuel ∷ [])
 
 -- the request that a transmission was handed, once it isn't pending
 abbrev pub handed_unless : Answer → Option HttpRequest → Option HttpRequest
 handed_unless answers.Pending request = None
 handed_unless _ request = request
 
+-- the request that an entry of a transmission shows, and none of any other
 abbrev pub transmitted : Question → Answer → Option HttpRequest
 transmitted (questions.Transmit settings request) answer = handed_unless answer request
 transmitted _ answer = None
@@ -38,6 +42,7 @@ transmitted _ answer = None
 abbrev pub entry_parts : ℕ → Entry → List Data
 entry_parts n e = num n ∷ kind_data (kind_of_question e.question) ∷ answer_data e.answer ∷ []
 
+-- the line of an entry of this number
 unfoldable pub entry_data : ℕ → Entry → Data
 entry_data n e = row (entry_parts n e ++ map request_data (option_to_list (transmitted e.question e.answer)))
 
@@ -51,13 +56,17 @@ abbrev pub entries_data : ℕ → List Entry → List Data
 entries_data n [] = []
 entries_data n (e ∷ es) = entry_data n e ∷ entries_data (n + 1) es
 
+-- an error by its name, with the failure or the payload, and the response that was held
 unfoldable pub error_data : SdkError Payload → Data
 error_data (errors.ConstructionFailure fault) = row (string (codes "ConstructionFailure") ∷ fault_data fault ∷ [])
 error_data (errors.TimeoutError fault) = row (string (codes "TimeoutError") ∷ fault_data fault ∷ [])
 error_data (errors.DispatchFailure fault) = row (string (codes "DispatchFailure") ∷ fault_data fault ∷ [])
-error_data (errors.ResponseError fault response) = row (string (codes "ResponseError") ∷ fault_data fault ∷ response_data response ∷ [])
-error_data (errors.ServiceError payload response) = row (string (codes "ServiceError") ∷ payload_data payload ∷ response_data response ∷ [])
+error_data (errors.ResponseError fault response) =
+    row (string (codes "ResponseError") ∷ fault_data fault ∷ response_data response ∷ [])
+error_data (errors.ServiceError payload response) =
+    row (string (codes "ServiceError") ∷ payload_data payload ∷ response_data response ∷ [])
 
+-- the last line: what the run answered
 unfoldable pub ending_data : Ending → Data
 ending_data (endings.Output payload) = row (string (codes "Ok") ∷ payload_data payload ∷ [])
 ending_data (endings.Stopped request) = row (string (codes "Stopped") ∷ null_or request_data request ∷ [])
@@ -65,6 +74,7 @@ ending_data (endings.Error error) = error_data error
 ending_data endings.Unfinished = row (string (codes "Unfinished") ∷ [])
 ending_data (endings.WrongType payload) = row (string (codes "WrongType") ∷ payload_data payload ∷ [])
 
+-- the print of a run: its first line, its entries numbered from 1, and its last line
 unfoldable pub run_text : RunHead → List Entry → Ending → List ℕ
 run_text s log e = line (begin_data s) ++ entries_text 1 log ++ line (ending_data e)
 

@@ -6,6 +6,7 @@ use Rattle.serde_json.specs.Data.{Data, Members, no_members, member}
 use Rattle.serde_json.specs.Find.{as_object}
 use Rattle.json_forms.specs.Reading.{◌>>=◌}
 
+-- the word is this name
 abbrev pub is_name : List ℕ → List ℕ → Bool
 is_name name word = pointwise nat_eq word name
 
@@ -13,6 +14,7 @@ is_name name word = pointwise nat_eq word name
 abbrev pub is_among : List (List ℕ) → List ℕ → Bool
 is_among names word = list_any (λ name. is_name name word) names
 
+-- each key passes the test
 abbrev pub members_all : (List ℕ → Bool) → Members → Bool
 members_all p no_members = true
 members_all p (member k d ms) = p k && members_all p ms

@@ -11,5 +11,6 @@ fits_or_none fits (Some x) = fits x
 unfoldable pub text_fits : List ℕ → Bool
 text_fits t = nat_le (length t) 4096
 
+-- each of these texts is within the limit
 abbrev pub texts_fit : List (List ℕ) → Bool
 texts_fit ts = list_all text_fits ts

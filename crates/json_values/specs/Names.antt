@@ -20,6 +20,7 @@ use Rattle.run_grammar.specs.declared.kind.Kind.TheVariants as kinds
 use Rattle.run_grammar.specs.declared.kind.Role.{Role}
 use Rattle.run_grammar.specs.declared.kind.Role.TheVariants as roles
 
+-- the name of what a sleep is for
 abbrev pub role_text : Role → List ℕ
 role_text roles.Operation = codes "Operation"
 role_text roles.Attempt = codes "Attempt"
@@ -27,11 +28,13 @@ role_text roles.Send = codes "Send"
 role_text roles.Retry = codes "Retry"
 role_text roles.LongPoll = codes "LongPoll"
 
+-- the name of a step of the configuration
 abbrev pub stage_text : ConfigureStage → List ℕ
 stage_text stages.Client = codes "Client"
 stage_text stages.Operation = codes "Operation"
 stage_text stages.Final = codes "Final"
 
+-- the name of what is given up while it is pending
 abbrev pub abandoned_text : Abandonable → List ℕ
 abandoned_text abandoned.Load = codes "Load"
 abandoned_text abandoned.Choose = codes "Choose"
@@ -63,6 +66,7 @@ kind_front kinds.Deserialize = []
 kind_front kinds.Decide = []
 kind_front kinds.Park = []
 
+-- the name of a kind, or that of the part that it has
 abbrev pub kind_name : Kind → List ℕ
 kind_name (kinds.Configure stage) = stage_text stage
 kind_name (kinds.Hook hook) = hook_text hook
@@ -83,61 +87,82 @@ kind_name kinds.Deserialize = codes "Deserialize"
 kind_name kinds.Decide = codes "Decide"
 kind_name kinds.Park = codes "Park"
 
+-- the name of a kind of question, as scripts and prints have it
 abbrev pub kind_text : Kind → List ℕ
 kind_text k = kind_front k ++ kind_name k
 
+-- the name of an error's kind
 abbrev pub error_kind_text : ErrorKind → List ℕ
 error_kind_text errors.TransientError = codes "TransientError"
 error_kind_text errors.ThrottlingError = codes "ThrottlingError"
 error_kind_text errors.ServerError = codes "ServerError"
 error_kind_text errors.ClientError = codes "ClientError"
 
+-- the name of a stop point
 abbrev pub stop_text : StopPoint → List ℕ
 stop_text stops.None = codes "None"
 stop_text stops.BeforeTransmit = codes "BeforeTransmit"
 
+-- the name of a version of the specification of retries
 abbrev pub version_text : RetrySpecVersion → List ℕ
 version_text versions.V2_0 = codes "V2_0"
 version_text versions.V2_1 = codes "V2_1"
 
+-- the name of a way to pace retries
 abbrev pub mode_text : RetryMode → List ℕ
 mode_text modes.Standard = codes "Standard"
 mode_text modes.Adaptive = codes "Adaptive"
 
+-- the name of what becomes of a connection on which a transient failure came
 abbrev pub reconnect_text : ReconnectMode → List ℕ
 reconnect_text reconnects.ReconnectOnTransientError = codes "ReconnectOnTransientError"
 reconnect_text reconnects.ReuseAllConnections = codes "ReuseAllConnections"
 
 -- ---- all values of each kind
 
+-- every kind of an error
 abbrev pub error_kinds : List ErrorKind
 error_kinds = errors.TransientError ∷ errors.ThrottlingError ∷ errors.ServerError ∷ errors.ClientError ∷ []
 
+-- every stop point
 abbrev pub stop_points : List StopPoint
 stop_points = stops.None ∷ stops.BeforeTransmit ∷ []
 
+-- every version of the specification of retries
 abbrev pub spec_versions : List RetrySpecVersion
 spec_versions = versions.V2_0 ∷ versions.V2_1 ∷ []
 
+-- every way to pace retries
 abbrev pub retry_modes : List RetryMode
 retry_modes = modes.Standard ∷ modes.Adaptive ∷ []
 
+-- all that may become of a connection on which a transient failure came
 abbrev pub reconnect_modes : List ReconnectMode
 reconnect_modes = reconnects.ReconnectOnTransientError ∷ reconnects.ReuseAllConnections ∷ []
 
+-- everything that a sleep may be for
 abbrev pub all_roles : List Role
 all_roles = roles.Operation ∷ roles.Attempt ∷ roles.Send ∷ roles.Retry ∷ roles.LongPoll ∷ []
 
+-- every step of the configuration
 abbrev pub all_stages : List ConfigureStage
 all_stages = stages.Client ∷ stages.Operation ∷ stages.Final ∷ []
 
+-- everything that may be given up while it is pending
 abbrev pub all_abandoned : List Abandonable
-all_abandoned = abandoned.Load ∷ abandoned.Choose ∷ abandoned.Endpoint ∷ abandoned.Transmit ∷ abandoned.Body ∷ abandoned.WaitSend ∷ abandoned.WaitRetry ∷ abandoned.WaitLongPoll ∷ []
+all_abandoned =
+    abandoned.Load ∷ abandoned.Choose ∷ abandoned.Endpoint ∷ abandoned.Transmit ∷ abandoned.Body ∷ abandoned.WaitSend
+    ∷ abandoned.WaitRetry ∷ abandoned.WaitLongPoll ∷ []
 
 -- those without a part
 abbrev pub plain_kinds : List Kind
-plain_kinds = kinds.Serialize ∷ kinds.Load ∷ kinds.Initial ∷ kinds.Choose ∷ kinds.Endpoint ∷ kinds.Apply ∷ kinds.Sign ∷ kinds.Transmit ∷ kinds.Stream ∷ kinds.Body
+plain_kinds =
+    kinds.Serialize ∷ kinds.Load ∷ kinds.Initial ∷ kinds.Choose ∷ kinds.Endpoint ∷ kinds.Apply ∷ kinds.Sign
+    ∷ kinds.Transmit ∷ kinds.Stream ∷ kinds.Body
     ∷ kinds.Deserialize ∷ kinds.Decide ∷ kinds.Park ∷ []
 
+-- every kind of question
 abbrev pub all_kinds : List Kind
-all_kinds = map kinds.Configure all_stages ++ map kinds.Hook all_hooks ++ plain_kinds ++ map kinds.Start all_roles ++ map kinds.Wait all_roles ++ map kinds.Abandon all_abandoned
+all_kinds =
+    map kinds.Configure all_stages ++ map kinds.Hook all_hooks ++ plain_kinds ++ map kinds.Start all_roles
+    ++ map kinds.Wait all_roles ++ map kinds.Abandon all_abandoned

@@ -1,5 +1,6 @@
 -- What stands in JSON for each value of a script or a print.
-use Rattle.std.specs.Prelude.{ℕ, List, [], ◌∷◌, ◌++◌, Bool, true, false, ◌&&◌, Option, Some, None, map, codes, nat_le, ◌==◌, ◌||◌, is_none, if◌then◌else◌}
+use Rattle.std.specs.Prelude.{ℕ, List, [], ◌∷◌, ◌++◌, Bool, true, false, ◌&&◌, Option, Some, None, map, codes, nat_le}
+use Rattle.std.specs.Prelude.{◌==◌, ◌||◌, is_none, if◌then◌else◌}
 use Rattle.std.specs.List.{list_all}
 use Rattle.http_header.specs.FieldValue.{FieldValue}
 use Rattle.http_header.specs.HeaderMap.{pairs}
@@ -55,9 +56,11 @@ use Rattle.json_values.specs.Names.{kind_text, error_kind_text, mode_text, recon
 
 -- ---- payloads, requests and responses
 
+-- a payload: its kind and its bytes
 unfoldable pub payload_data : Payload → Data
 payload_data p = row (num p.kind ∷ blob_data p.bytes ∷ [])
 
+-- a header: its name and its value
 unfoldable pub header_data : List ℕ × FieldValue → Data
 header_data h = row (string h.0 ∷ blob_data (h.1).bytes ∷ [])
 
@@ -65,39 +68,48 @@ header_data h = row (string h.0 ∷ blob_data (h.1).bytes ∷ [])
 unfoldable pub headers_data : HeaderList → Data
 headers_data hs = row (map header_data (pairs hs))
 
+-- a body: bytes in memory, bytes that can be sent once, or null for one that is gone
 unfoldable pub body_data : Body → Data
 body_data (bodies.Bytes bytes) = blob_data bytes
 body_data (bodies.Once bytes) = row (string (codes "Once") ∷ blob_data bytes ∷ [])
 body_data bodies.Taken = null
 
+-- a request: its method, uri, headers and body
 unfoldable pub request_data : HttpRequest → Data
 request_data r = row (string r.method ∷ string r.uri ∷ headers_data r.headers ∷ body_data r.body ∷ [])
 
+-- a response: its status, headers and body
 unfoldable pub response_data : HttpResponse → Data
 response_data r = row (num r.status ∷ headers_data r.headers ∷ body_data r.body ∷ [])
 
 -- ---- identities and endpoints
 
+-- an identity: its content, and when it expires
 unfoldable pub identity_data : Identity → Data
 identity_data i = row (blob_data i.content ∷ null_or num i.expiration ∷ [])
 
+-- a header that an endpoint sets: its name and its values
 unfoldable pub endpoint_header_data : EndpointHeader → Data
 endpoint_header_data h = row (string h.name ∷ texts h.values ∷ [])
 
+-- an endpoint: its url, its headers, and the auth schemes that it lists or null
 unfoldable pub endpoint_data : Endpoint → Data
 endpoint_data e = row (string e.url ∷ row (map endpoint_header_data e.headers) ∷ null_or texts e.schemes ∷ [])
 
 -- ---- failures and outcomes
 
+-- the name of an error's kind
 unfoldable pub error_kind_data : ErrorKind → Data
 error_kind_data k = string (error_kind_text k)
 
+-- the kind of a connector's failure; another one has an error's kind or null beside it
 unfoldable pub connector_data : ConnectorKind → Data
 connector_data connectors.Timeout = string (codes "Timeout")
 connector_data connectors.User = string (codes "User")
 connector_data connectors.Io = string (codes "Io")
 connector_data (connectors.Other kind) = row (string (codes "Other") ∷ null_or error_kind_data kind ∷ [])
 
+-- the word for a failure's kind, and what that kind has of its own
 unfoldable pub fault_parts : FaultKind → List Data
 fault_parts (faults.Interceptor hook) = string (codes "Interceptor") ∷ string (hook_text hook) ∷ []
 fault_parts (faults.Operation payload) = string (codes "Operation") ∷ payload_data payload ∷ []
@@ -110,10 +122,12 @@ fault_parts faults.Other = string (codes "Other") ∷ []
 unfoldable pub fault_data : Fault → Data
 fault_data f = row (fault_parts f.kind ++ string f.text ∷ [])
 
+-- what an attempt or a run came to: an output, or a failure
 unfoldable pub outcome_data : Outcome → Data
 outcome_data (outcomes.Output payload) = row (string (codes "Output") ∷ payload_data payload ∷ [])
 outcome_data (outcomes.Failed fault) = row (string (codes "Failed") ∷ fault_data fault ∷ [])
 
+-- the part of the run that a hook writes, and its new value
 unfoldable pub change_data : Change → Data
 change_data (changes.Input payload) = row (string (codes "Input") ∷ payload_data payload ∷ [])
 change_data (changes.Request request) = row (string (codes "Request") ∷ request_data request ∷ [])
@@ -122,15 +136,21 @@ change_data (changes.Outcome outcome) = row (string (codes "Outcome") ∷ outcom
 
 -- ---- settings
 
+-- the deadlines, each in nanoseconds or null
 unfoldable pub timeouts_data : TimeoutConfig → Data
-timeouts_data t = row (null_or num t.connect ∷ null_or num t.read ∷ null_or num t.operation ∷ null_or num t.attempt ∷ [])
+timeouts_data t =
+    row (null_or num t.connect ∷ null_or num t.read ∷ null_or num t.operation ∷ null_or num t.attempt ∷ [])
 
+-- the specification of retries: its version, long polling, and the first backoff where nothing throttles
 unfoldable pub spec_data : RetrySpec → Data
 spec_data s = row (string (version_text s.version) ∷ boolean s.long_polling ∷ num s.non_throttling_initial_backoff ∷ [])
 
+-- how an operation is retried
 unfoldable pub retry_data : RetryConfig → Data
-retry_data r = row (string (mode_text r.mode) ∷ num r.max_attempts ∷ num r.initial_backoff ∷ num r.max_backoff ∷ string (reconnect_text r.reconnect) ∷ boolean r.static_base ∷ null_or spec_data r.spec ∷ [])
+retry_data r = row (string (mode_text r.mode) ∷ num r.max_attempts ∷ num r.initial_backoff ∷ num r.max_backoff
+    ∷ string (reconnect_text r.reconnect) ∷ boolean r.static_base ∷ null_or spec_data r.spec ∷ [])
 
+-- whether uploads and downloads that stall are given up, and after which grace period
 unfoldable pub stall_data : StalledStreamProtectionConfig → Data
 stall_data s = row (boolean s.upload ∷ boolean s.download ∷ num s.grace_period ∷ [])
 
@@ -163,11 +183,13 @@ key_text key = key_name key
 unfoldable pub layer_entry_data : LayerEntry → Data
 layer_entry_data e = row (string (key_text e.key) ∷ null_or value_data e.value ∷ [])
 
+-- the entries of a layer, in their order
 unfoldable pub layer_data : List LayerEntry → Data
 layer_data l = row (map layer_entry_data l)
 
 -- ---- answers of hooks, and notes
 
+-- a layer that sets nothing
 abbrev pub no_layer : List LayerEntry → Bool
 no_layer [] = true
 no_layer (e ∷ es) = false
@@ -176,47 +198,61 @@ no_layer (e ∷ es) = false
 abbrev pub does_nothing : HookAnswer → Bool
 does_nothing a = is_none a.change && no_layer a.settings && is_none a.failure
 
+-- what a hook did: its change, its settings and its failure, or one word where it did nothing
 unfoldable pub hook_answer_data : HookAnswer → Data
 hook_answer_data a = if does_nothing a then string (codes "Done")
-    else row (string (codes "Hook") ∷ null_or change_data a.change ∷ layer_data a.settings ∷ null_or string a.failure ∷ [])
+    else row (string (codes "Hook") ∷ null_or change_data a.change ∷ layer_data a.settings
+    ∷ null_or string a.failure ∷ [])
 
+-- where an identity came from
 unfoldable pub choose_note_data : ChooseNote → Data
 choose_note_data choose_notes.Hit = string (codes "Hit")
 choose_note_data choose_notes.Load = string (codes "Load")
 choose_note_data choose_notes.Uncached = string (codes "Uncached")
 
+-- whether a further attempt is made, and the pause that goes with it
 unfoldable pub choice_data : Choice → Data
 choice_data choices.Yes = string (codes "Yes")
 choice_data choices.No = string (codes "No")
 choice_data (choices.NoAfter nanos) = row (string (codes "NoAfter") ∷ num nanos ∷ [])
 choice_data (choices.Delay nanos) = row (string (codes "Delay") ∷ num nanos ∷ [])
 
+-- what a retry classifier says
 unfoldable pub action_data : RetryAction → Data
 action_data actions.NoActionIndicated = string (codes "NoActionIndicated")
-action_data (actions.RetryIndicated kind after) = row (string (codes "RetryIndicated") ∷ error_kind_data kind ∷ null_or num after ∷ [])
+action_data (actions.RetryIndicated kind after) =
+    row (string (codes "RetryIndicated") ∷ error_kind_data kind ∷ null_or num after ∷ [])
 action_data actions.RetryForbidden = string (codes "RetryForbidden")
 
+-- why a retry strategy chose so, with the tokens that it is about
 unfoldable pub reason_data : Reason → Data
 reason_data reasons.NotIndicated = string (codes "NotIndicated")
 reason_data reasons.OutOfAttempts = string (codes "OutOfAttempts")
 reason_data (reasons.NoQuota cost) = row (string (codes "NoQuota") ∷ num cost ∷ [])
 reason_data (reasons.Granted amount) = row (string (codes "Granted") ∷ num amount ∷ [])
 
+-- the five sums of a token bucket
 unfoldable pub sums_data : Sums → Data
 sums_data s = row (num s.capacity ∷ num s.granted ∷ num s.available ∷ num s.held ∷ num s.forgotten ∷ [])
 
+-- what a decision was made from
 unfoldable pub note_data : DecideNote → Data
-note_data n = row (action_data n.verdict ∷ null_or num n.moment ∷ num n.word ∷ reason_data n.reason ∷ null_or sums_data n.sums ∷ [])
+note_data n = row (action_data n.verdict ∷ null_or num n.moment ∷ num n.word ∷ reason_data n.reason
+    ∷ null_or sums_data n.sums ∷ [])
 
+-- a decision, with what it was made from if that is noted
 unfoldable pub decided_data : Choice → Option DecideNote → Data
 decided_data choice None = choice_data choice
 decided_data choice (Some note) = row (string (codes "Noted") ∷ choice_data choice ∷ note_data note ∷ [])
 
 -- ---- answers
 
+-- the scheme and the identity of a choice, with what goes with them
 unfoldable pub chosen_data : Chosen → Data
-chosen_data c = row (string (codes "Chosen") ∷ string c.scheme ∷ identity_data c.identity ∷ null_or endpoint_data c.endpoint ∷ layer_data c.settings ∷ null_or choose_note_data c.note ∷ [])
+chosen_data c = row (string (codes "Chosen") ∷ string c.scheme ∷ identity_data c.identity
+    ∷ null_or endpoint_data c.endpoint ∷ layer_data c.settings ∷ null_or choose_note_data c.note ∷ [])
 
+-- an answer of the world: its word, and its value where it has one
 unfoldable pub answer_data : Answer → Data
 answer_data answers.Pending = string (codes "Pending")
 answer_data answers.Absent = string (codes "Absent")
@@ -242,5 +278,6 @@ answer_data answers.Abandoned = string (codes "Abandoned")
 answer_data answers.Parked = string (codes "Parked")
 answer_data answers.NoMemory = string (codes "NoMemory")
 
+-- the name of a kind of question
 unfoldable pub kind_data : Kind → Data
 kind_data k = string (kind_text k)

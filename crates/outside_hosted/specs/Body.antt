@@ -11,7 +11,8 @@ no_body = record { frames = []; room = 16384 }
 -- with this piece behind what came, if there are bytes in it
 abbrev pub with_piece : List ℕ → HostBody → HostBody
 with_piece piece body =
-    if length piece == 0 then body else record { frames = body.frames ++ Data piece ∷ []; room = body.room - length piece }
+    if length piece == 0 then body
+    else record { frames = body.frames ++ Data piece ∷ []; room = body.room - length piece }
 
 -- with as many of these bytes as there is room for
 abbrev pub with_data : List ℕ → HostBody → HostBody

@@ -19,13 +19,15 @@ with_own_reply is_own come reply = if is_own then Some (first_of reply come) els
 -- the call with what came of the request of the call of this number
 abbrev pub with_reply : ℕ → HostReply → HostCall → HostCall
 with_reply call come Idle = Idle
-with_reply call come (Waiting number order reply body) = Waiting number order (with_own_reply (number == call) come reply) body
+with_reply call come (Waiting number order reply body) =
+    Waiting number order (with_own_reply (number == call) come reply) body
 with_reply call come (Streaming number body) = Streaming number body
 
 -- the call with a frame of the body of that call's response
 abbrev pub with_call_frame : ℕ → HostFrame → HostCall → HostCall
 with_call_frame call frame Idle = Idle
-with_call_frame call frame (Waiting number order reply body) = Waiting number order reply (with_own (number == call) frame body)
+with_call_frame call frame (Waiting number order reply body) =
+    Waiting number order reply (with_own (number == call) frame body)
 with_call_frame call frame (Streaming number body) = Streaming number (with_own (number == call) frame body)
 
 -- what the host wasn't told to send yet

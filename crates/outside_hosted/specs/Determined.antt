@@ -7,4 +7,5 @@ use Rattle.outside_hosted.specs.Makes.{Makes}
 -- the same call from one state, answered twice, has one answer
 abbrev pub Tells : {A : Type 0} → (A → OutsideCall) → Type 0
 Tells {A} call =
-    (old new other : HostedOutside) (answer answered : A) → Makes old (call answer) new → Makes old (call answered) other → answer ≡ answered
+    (old new other : HostedOutside) (answer answered : A) → Makes old (call answer) new
+    → Makes old (call answered) other → answer ≡ answered

@@ -12,7 +12,9 @@ opened_load id = record { id = id; is_told = false; answer = None }
 abbrev pub with_answer : List ℕ → HostIdentity → Option HostLoad → Option HostLoad
 with_answer id come None = None
 with_answer id come (Some load) =
-    if pointwise nat_eq load.id id then Some (record { id = load.id; is_told = load.is_told; answer = Some (unwrap_or load.answer come) }) else Some load
+    if pointwise nat_eq load.id id
+    then Some (record { id = load.id; is_told = load.is_told; answer = Some (unwrap_or load.answer come) })
+    else Some load
 
 -- whether something came that wasn't asked for yet
 abbrev pub load_has_news : Option HostLoad → Bool

@@ -1,5 +1,6 @@
 -- What a call makes of a hosted outside.
-use Rattle.std.specs.Prelude.{◌≡◌, ℕ, ◌+◌, ◌-◌, ◌^◌, ◌==◌, nat_le, nat_eq, Bool, not, ◌||◌, if◌then◌else◌, List, [], ◌∷◌, ◌++◌, Option, None, Some, Ok, Err, MatchBool, slice_get}
+use Rattle.std.specs.Prelude.{◌≡◌, ℕ, ◌+◌, ◌-◌, ◌^◌, ◌==◌, nat_le, nat_eq, Bool, not, ◌||◌, if◌then◌else◌, List, []}
+use Rattle.std.specs.Prelude.{◌∷◌, ◌++◌, Option, None, Some, Ok, Err, MatchBool, slice_get}
 use Rattle.std.specs.Cmp.Lexicographic.{pointwise}
 use Rattle.smithy_types.specs.declared.http.Body.TheVariants.{Taken}
 use Rattle.smithy_types.specs.declared.polled.Polled.{Polled}
@@ -7,7 +8,8 @@ use Rattle.smithy_types.specs.declared.polled.Polled.TheVariants as polled
 use Rattle.smithy_types.specs.declared.timers.TimersCall.{TimersCall}
 use Rattle.smithy_types.specs.declared.timers.TimersCall.TheVariants.{Now, Start, Ready, GiveUp}
 use Rattle.rand_pcg.specs.Pcg.{pcg64}
-use Rattle.outside.specs.Calls.{OutsideCall, OfTimers, Begin, Poll, Frame, DropCall, Resolve, DropResolve, Word, Poison, Park}
+use Rattle.outside.specs.Calls.{OutsideCall, OfTimers, Begin, Poll, Frame, DropCall, Resolve, DropResolve, Word, Poison}
+use Rattle.outside.specs.Calls.{Park}
 use Rattle.outside.specs.declared.answers.IdentityPoll.{IdentityPoll}
 use Rattle.outside.specs.declared.answers.IdentityPoll.TheVariants as identity
 use Rattle.outside.specs.declared.answers.Sent.{Sent}
@@ -47,20 +49,24 @@ Ticks old (GiveUp sleep) new = new ≡ record old { sleeps = without sleep old.s
 -- failure nothing is open.
 abbrev pub Hands : HostedOutside → HostCall → Sent → HostedOutside → Type 0
 Hands old (Waiting number order (Some (Response status headers)) body) answer new =
-    (answer ≡ sent.Response (record { status = status; headers = headers; body = Taken })) × (new ≡ record old { call = Streaming number body })
+    (answer ≡ sent.Response (record { status = status; headers = headers; body = Taken }))
+    × (new ≡ record old { call = Streaming number body })
 Hands old (Waiting number order (Some (NoResponse kind text)) body) answer new =
     (answer ≡ sent.Failed kind text) × (new ≡ record old { call = Idle; faults = raised old.faults })
 Hands old (Waiting number order None body) answer new =
     (answer ≡ sent.Pending) × (new ≡ record old { call = Waiting number order None body })
 Hands old Idle answer new = (answer ≡ sent.Pending) × (new ≡ record old { call = Idle })
-Hands old (Streaming number body) answer new = (answer ≡ sent.Pending) × (new ≡ record old { call = Streaming number body })
+Hands old (Streaming number body) answer new =
+    (answer ≡ sent.Pending) × (new ≡ record old { call = Streaming number body })
 
 -- The next frame of this call's body is handed out, and this body is left. Behind the end, and
 -- where it broke off, nothing is open.
 abbrev pub Flows : HostedOutside → ℕ → Option HostFrame → HostBody → Polled → HostedOutside → Type 0
 Flows old number None rest answer new = (answer ≡ polled.Pending) × (new ≡ record old { call = Streaming number rest })
-Flows old number (Some (Data bytes)) rest answer new = (answer ≡ polled.Data bytes) × (new ≡ record old { call = Streaming number rest })
-Flows old number (Some Trailers) rest answer new = (answer ≡ polled.Trailers) × (new ≡ record old { call = Streaming number rest })
+Flows old number (Some (Data bytes)) rest answer new =
+    (answer ≡ polled.Data bytes) × (new ≡ record old { call = Streaming number rest })
+Flows old number (Some Trailers) rest answer new =
+    (answer ≡ polled.Trailers) × (new ≡ record old { call = Streaming number rest })
 Flows old number (Some End) rest answer new = (answer ≡ polled.End) × (new ≡ record old { call = Idle })
 Flows old number (Some (Broken fault)) rest answer new =
     (answer ≡ polled.Failed fault) × (new ≡ record old { call = Idle; faults = raised old.faults })
@@ -76,8 +82,10 @@ Gives old (Streaming number body) answer new = Flows old number (slice_get body.
 -- what came of the load is handed out, once
 abbrev pub Loads : HostedOutside → HostLoad → Option HostIdentity → IdentityPoll → HostedOutside → Type 0
 Loads old load None answer new =
-    (answer ≡ identity.Pending) × (new ≡ record old { load = Some (record { id = load.id; is_told = load.is_told; answer = None }) })
-Loads old load (Some (Loaded content)) answer new = (answer ≡ identity.Ready content) × (new ≡ record old { load = None })
+    (answer ≡ identity.Pending)
+    × (new ≡ record old { load = Some (record { id = load.id; is_told = load.is_told; answer = None }) })
+Loads old load (Some (Loaded content)) answer new =
+    (answer ≡ identity.Ready content) × (new ≡ record old { load = None })
 Loads old load (Some (NotLoaded text)) answer new =
     (answer ≡ identity.Failed text) × (new ≡ record old { load = None; faults = raised old.faults })
 
@@ -100,7 +108,10 @@ has_news old = call_has_news old.call || load_has_news old.load
 abbrev pub Makes : HostedOutside → OutsideCall → HostedOutside → Type 0
 Makes old (OfTimers call) new = Ticks old call new
 Makes old (Begin request settings (Ok done)) new =
-    new ≡ record old { call = Waiting old.calls (Some (order_of request settings)) None no_body; calls = raised old.calls }
+    new ≡ record old {
+      call = Waiting old.calls (Some (order_of request settings)) None no_body;
+      calls = raised old.calls;
+    }
 Makes old (Begin request settings (Err error)) new = new ≡ old
 Makes old (Poll (Ok answer)) new = Hands old old.call answer new
 Makes old (Poll (Err error)) new = ⊥
@@ -110,6 +121,7 @@ Makes old DropCall new = new ≡ record old { call = Idle }
 Makes old (Resolve id (Ok answer)) new = Resolves old id old.load answer new
 Makes old (Resolve id (Err error)) new = new ≡ record old { load = None }
 Makes old DropResolve new = new ≡ record old { load = None }
-Makes old (Word word) new = (word ≡ (pcg64 old.generator).0) × (new ≡ record old { generator = (pcg64 old.generator).1 })
+Makes old (Word word) new =
+    (word ≡ (pcg64 old.generator).0) × (new ≡ record old { generator = (pcg64 old.generator).1 })
 Makes old (Poison number) new = new ≡ record old { poisoned = Some number }
 Makes old Park new = new ≡ record old { is_parked = not (has_news old) }

@@ -21,4 +21,8 @@ capture_of _ = None
 
 -- the request as it was handed over, with what the settings say of deadlines and of the attempt
 abbrev pub order_of : HttpRequest → StandingLayers → Order
-order_of request settings = record { request = request; timeouts = timeouts_of (loaded settings key.Timeouts); capture = capture_of (loaded settings key.Capture) }
+order_of request settings = record {
+  request = request;
+  timeouts = timeouts_of (loaded settings key.Timeouts);
+  capture = capture_of (loaded settings key.Capture);
+}

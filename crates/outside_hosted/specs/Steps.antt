@@ -1,5 +1,6 @@
 -- What happens to a hosted outside: what its client asks, and what its host does.
-use Rattle.std.specs.Prelude.{◌≡◌, ℕ, ◌+◌, max, nat_eq, Bool, true, false, not, List, [], Option, None, Some, Ok, length, sum_by}
+use Rattle.std.specs.Prelude.{◌≡◌, ℕ, ◌+◌, max, nat_eq, Bool, true, false, not, List, [], Option, None, Some, Ok}
+use Rattle.std.specs.Prelude.{length, sum_by}
 use Rattle.std.specs.Cmp.Lexicographic.{pointwise}
 use Rattle.smithy_types.specs.Frames.{data_len}
 use Rattle.outside.specs.Calls.{OutsideCall, Begin, Frame, Resolve}

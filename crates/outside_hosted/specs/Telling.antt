@@ -18,8 +18,19 @@ known_load (Some load) = Some (record { id = load.id; is_told = true; answer = l
 
 -- what is told, with the next moment at which a sleep is over
 abbrev pub told_of : Option ℕ → HostedOutside → Told
-told_of wake old = record { call = open_call old.call; order = order_left old.call; load = told_load old.load; poisoned = old.poisoned; wake = wake }
+told_of wake old = record {
+  call = open_call old.call;
+  order = order_left old.call;
+  load = told_load old.load;
+  poisoned = old.poisoned;
+  wake = wake;
+}
 
 -- the outside when the host was told
 abbrev pub after_told : HostedOutside → HostedOutside
-after_told old = record old { call = without_order old.call; load = known_load old.load; poisoned = None; is_parked = false }
+after_told old = record old {
+  call = without_order old.call;
+  load = known_load old.load;
+  poisoned = None;
+  is_parked = false;
+}

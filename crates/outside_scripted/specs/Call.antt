@@ -1,5 +1,6 @@
 -- The open call, and what it gives at a moment.
-use Rattle.std.specs.Prelude.{◌≡◌, ℕ, ◌+◌, ◌==◌, ◌&&◌, nat_le, if◌then◌else◌, length, Option, None, Some, option_map, slice_get, MatchBool, codes}
+use Rattle.std.specs.Prelude.{◌≡◌, ℕ, ◌+◌, ◌==◌, ◌&&◌, nat_le, if◌then◌else◌, length, Option, None, Some, option_map}
+use Rattle.std.specs.Prelude.{slice_get, MatchBool, codes}
 use Rattle.smithy_types.specs.declared.polled.Polled.{Polled}
 use Rattle.smithy_types.specs.declared.polled.Polled.TheVariants.{Pending, Data, End}
 use Rattle.outside_scripted.specs.declared.call.OpenBody.{OpenBody}

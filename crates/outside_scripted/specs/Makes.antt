@@ -1,6 +1,8 @@
 -- What a call makes of a scripted outside.
-use Rattle.std.specs.Prelude.{◌≡◌, ℕ, ◌+◌, ◌-◌, ◌^◌, ◌==◌, nat_le, if◌then◌else◌, List, [], ◌∷◌, ◌++◌, Option, None, Some, Ok, Err, MatchBool, option_to_list, drop, position, slice_get, unwrap_or, codes}
-use Rattle.outside.specs.Calls.{OutsideCall, OfTimers, Begin, Poll, Frame, DropCall, Resolve, DropResolve, Word, Poison, Park}
+use Rattle.std.specs.Prelude.{◌≡◌, ℕ, ◌+◌, ◌-◌, ◌^◌, ◌==◌, nat_le, if◌then◌else◌, List, [], ◌∷◌, ◌++◌, Option, None}
+use Rattle.std.specs.Prelude.{Some, Ok, Err, MatchBool, option_to_list, drop, position, slice_get, unwrap_or, codes}
+use Rattle.outside.specs.Calls.{OutsideCall, OfTimers, Begin, Poll, Frame, DropCall, Resolve, DropResolve, Word, Poison}
+use Rattle.outside.specs.Calls.{Park}
 use Rattle.outside.specs.declared.answers.IdentityPoll.{IdentityPoll}
 use Rattle.outside.specs.declared.answers.IdentityPoll.TheVariants as identity
 use Rattle.outside.specs.declared.answers.Sent.{Sent}
@@ -44,7 +46,15 @@ Hands old (Some (given.Failed kind text)) answer new =
     (answer ≡ sent.Failed kind text) × (new ≡ record old { call = Idle; faults = raised old.faults })
 Hands old (Some (given.Response response)) answer new =
     (answer ≡ sent.Response (record { status = response.status; headers = response.headers; body = Taken }))
-    × (new ≡ record old { moment = unwrap_or response.clock old.moment; call = Streaming (record { frames = response.frames; next = 0; repeat = response.repeat; since = unwrap_or response.clock old.moment }) })
+    × (new ≡ record old {
+      moment = unwrap_or response.clock old.moment;
+      call = Streaming (record {
+        frames = response.frames;
+        next = 0;
+        repeat = response.repeat;
+        since = unwrap_or response.clock old.moment;
+      });
+    })
 
 -- the sources of the client's identities
 abbrev pub identities_of : Option (List IdentityRecord) → List IdentityRecord

@@ -8,5 +8,11 @@ use Rattle.outside_scripted.specs.declared.records.ResponseRecord.{ResponseRecor
 abbrev pub record_of : ℕ × Bor (List ℕ) → ResponseRecord
 record_of row = record {
   delay = 0;
-  answer = Response (record { status = row.0; headers = []; frames = record { delay = 0; bytes = row.1.now } ∷ []; repeat = false; clock = None });
+  answer = Response (record {
+    status = row.0;
+    headers = [];
+    frames = record { delay = 0; bytes = row.1.now } ∷ [];
+    repeat = false;
+    clock = None;
+  });
 }

@@ -13,6 +13,7 @@ use Rattle.cli_shell.specs.declared.status.PrintStatus.TheVariants as outcomes
 abbrev pub line_of : List ℕ → List ℕ
 line_of word = line (row (string word ∷ []))
 
+-- the print of each verdict, and what it came to
 abbrev pub verdict_says : Verdict → Said → Type 0
 verdict_says verdicts.Yes s = s ≡ prints outcomes.Ok (line_of (codes "yes"))
 verdict_says verdicts.No s = s ≡ prints outcomes.CheckNo (line_of (codes "no"))

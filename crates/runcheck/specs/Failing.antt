@@ -20,12 +20,14 @@ use Rattle.smithy_types.specs.Hooks.{all_hooks, hook_text}
 use Rattle.json_values.specs.Readings.{failed_by}
 use Rattle.json_values.specs.SettingReadings.{layer_at}
 
+-- a hook, by its name
 unfoldable pub hook_at : Data → Option Hook
 hook_at d = as_str d >>= named hook_text all_hooks
 
 -- a failure of a hook, which no script may write
 unfoldable pub hook_fault_at : Data → Option Fault
-hook_fault_at d = triple_at d >>= λ p. word_at (codes "Interceptor") p.0 >>= λ _. hook_at p.1 >>= λ h. as_str p.2 >>= λ t. Some (failed_by (faults.Interceptor h) t)
+hook_fault_at d = triple_at d >>= λ p. word_at (codes "Interceptor") p.0 >>= λ _. hook_at p.1 >>= λ h.
+    as_str p.2 >>= λ t. Some (failed_by (faults.Interceptor h) t)
 
 -- the outcome that is such a failure
 unfoldable pub hook_outcome_at : Data → Option Outcome
@@ -37,7 +39,8 @@ failing_answer_at d = tagged_at (codes "Outcome") d >>= hook_outcome_at >>= λ o
 
 -- that outcome as a hook writes it
 unfoldable pub failing_hook_at : Data → Option Answer
-failing_hook_at d = quadruple_at d >>= λ p. word_at (codes "Hook") p.0 >>= λ _. tagged_at (codes "Outcome") p.1 >>= hook_outcome_at >>= λ o. layer_at p.2 >>= λ l. optional_at as_str p.3 >>= λ t.
+failing_hook_at d = quadruple_at d >>= λ p. word_at (codes "Hook") p.0 >>= λ _.
+    tagged_at (codes "Outcome") p.1 >>= hook_outcome_at >>= λ o. layer_at p.2 >>= λ l. optional_at as_str p.3 >>= λ t.
     Some (answers.Hooked (record { change = Some (changes.Outcome o); settings = l; failure = t }))
 
 -- an answer with a failure of a hook
@@ -47,6 +50,7 @@ hook_failure_at kinds.Stream d = failing_answer_at d
 hook_failure_at kinds.Deserialize d = failing_answer_at d
 hook_failure_at _ d = None
 
+-- the first reading, or the second where there is no first
 abbrev pub or_else : {X : Type 0} → Option X → Option X → Option X
 or_else (Some x) other = Some x
 or_else None other = other

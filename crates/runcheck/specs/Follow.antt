@@ -19,6 +19,7 @@ abbrev pub log_of : Standing → List Call → List Entry
 log_of s [] = []
 log_of s (c ∷ cs) = entry_of s c ∷ log_of (after_call s c).context cs
 
+-- what a line tells of an entry: its kind and its answer
 abbrev pub call_of : Entry → Call
 call_of e = record { kind = kind_of e; answer = e.answer }
 

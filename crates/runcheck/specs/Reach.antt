@@ -17,6 +17,7 @@ use Rattle.smithy_types.specs.declared.payload.Payload.{Payload}
 use Rattle.runcheck.specs.Follow.{calls_of}
 use Rattle.runcheck.specs.Told.{IsTold}
 
+-- the ending of a run to its end, by its answer
 abbrev pub ending_by : RunHead → Result Payload (SdkError Payload) → Ending
 ending_by h (Ok p) = output_ending h.output_kind p
 ending_by h (Err e) = error_ending h.error_kind e
@@ -25,8 +26,11 @@ ending_by h (Err e) = error_ending h.error_kind e
 -- that a hook wrote, where no failure stands.
 abbrev pub ending_at : StopPoint → RunHead → InterceptorContext → Ending
 ending_at stops.None h c = ending_by h (answer_of c)
-ending_at stops.BeforeTransmit h c = cond (is_failure c.view.outcome) (error_ending h.error_kind (failure_of c)) (stopped_by c.view.request c.view.outcome)
+ending_at stops.BeforeTransmit h c =
+    cond (is_failure c.view.outcome) (error_ending h.error_kind (failure_of c))
+    (stopped_by c.view.request c.view.outcome)
 
+-- the answer of a whole run, by its head and the context at its end
 abbrev pub whole_ending : RunHead → InterceptorContext → Ending
 whole_ending h c = ending_at h.stop h c
 
@@ -38,4 +42,6 @@ pub record IsPrintOf (head : RunHead) (log : List Entry) (text : List ℕ) : Typ
 
 -- The text is the print of a whole run and of its answer, and its lines are read as what they were printed for.
 abbrev pub Reach : List ℕ → Type 0
-Reach text = (head : RunHead) × (log : List Entry) × IsPrintOf head log text × IsTold text (record { head = head; calls = calls_of log })
+Reach text =
+    (head : RunHead) × (log : List Entry) × IsPrintOf head log text
+    × IsTold text (record { head = head; calls = calls_of log })

@@ -1,5 +1,6 @@
 -- What the lines of a text tell of a run.
-use Rattle.std.specs.Prelude.{ℕ, ◌≡◌, ◌-◌, List, [], ◌∷◌, Option, Some, None, codes, drop, length, nat_lt, take, IsUtf8, if◌then◌else◌}
+use Rattle.std.specs.Prelude.{ℕ, ◌≡◌, ◌-◌, List, [], ◌∷◌, Option, Some, None, codes, drop, length, nat_lt, take, IsUtf8}
+use Rattle.std.specs.Prelude.{if◌then◌else◌}
 use Rattle.json_forms.specs.Lines.{read_lines}
 use Rattle.json_forms.specs.Forms.{named, word_at}
 use Rattle.json_forms.specs.Lists.{list_of}
@@ -17,12 +18,14 @@ use Rattle.runcheck.specs.Failing.{told_answer_at}
 use Rattle.runcheck.specs.declared.told.Call.{Call}
 use Rattle.runcheck.specs.declared.told.Told.{Told}
 
+-- a stop point, by its name
 unfoldable pub stop_at : Data → Option StopPoint
 stop_at d = as_str d >>= named stop_text stop_points
 
 -- the first line
 unfoldable pub head_at : Data → Option RunHead
-head_at d = sextuple_at d >>= λ p. word_at (codes "begin") p.0 >>= λ _. payload_at p.1 >>= λ i. stop_at p.2 >>= λ s. number_at p.3 >>= λ o. number_at p.4 >>= λ e. number_at p.5 >>= λ f.
+head_at d = sextuple_at d >>= λ p. word_at (codes "begin") p.0 >>= λ _. payload_at p.1 >>= λ i. stop_at p.2 >>= λ s.
+    number_at p.3 >>= λ o. number_at p.4 >>= λ e. number_at p.5 >>= λ f.
     Some (record { input = i; fuel = f; stop = s; output_kind = o; error_kind = e })
 
 -- the kind and the answer, which stand behind an entry's number
@@ -32,8 +35,10 @@ told_parts _ = None
 
 -- the line of an entry
 unfoldable pub call_at : Data → Option Call
-call_at d = as_array d >>= told_parts >>= λ p. kind_at p.0 >>= λ k. told_answer_at k p.1 >>= λ a. Some (record { kind = k; answer = a })
+call_at d = as_array d >>= told_parts >>= λ p. kind_at p.0 >>= λ k. told_answer_at k p.1 >>= λ a.
+    Some (record { kind = k; answer = a })
 
+-- the first line, if there is one
 abbrev pub first_of : List Data → Option Data
 first_of [] = None
 first_of (d ∷ ds) = Some d
@@ -44,8 +49,10 @@ between ds = if nat_lt (length ds) 2 then None else Some (take (length ds - 2) (
 
 -- all lines but the last are read
 unfoldable pub told_at : List Data → Option Told
-told_at ds = first_of ds >>= head_at >>= λ h. between ds >>= λ es. list_of call_at (items_of es) >>= λ cs. Some (record { head = h; calls = cs })
+told_at ds = first_of ds >>= head_at >>= λ h. between ds >>= λ es. list_of call_at (items_of es) >>= λ cs.
+    Some (record { head = h; calls = cs })
 
+-- what the lines of a text tell, where each is read
 unfoldable pub told_by : List ℕ → Option Told
 told_by text = read_lines text >>= told_at
 

@@ -1,5 +1,6 @@
 -- What a call makes of scripted waiters.
-use Rattle.std.specs.Prelude.{◌≡◌, ℕ, ◌+◌, ◌-◌, ◌^◌, ◌==◌, ◌<◌, ◌≤◌, true, false, if◌then◌else◌, min, List, [], ◌∷◌, ◌++◌, Option, None, Some, Ok, Err, slice_get, unwrap_or}
+use Rattle.std.specs.Prelude.{◌≡◌, ℕ, ◌+◌, ◌-◌, ◌^◌, ◌==◌, ◌<◌, ◌≤◌, true, false, if◌then◌else◌, min, List, [], ◌∷◌}
+use Rattle.std.specs.Prelude.{◌++◌, Option, None, Some, Ok, Err, slice_get, unwrap_or}
 use Rattle.std.proofs.Common.{set}
 use Rattle.smithy_types.specs.declared.timers.TimersCall.{TimersCall}
 use Rattle.smithy_types.specs.declared.timers.TimersCall.TheVariants.{Now, Start, Ready, GiveUp}
@@ -61,7 +62,8 @@ put waiter place world = record world { places = set world.places waiter place }
 abbrev pub Waits : ScriptedFleet → ℕ → ScriptedFleet → Type 0
 Waits old waiter new =
     (old.moment < due_of old waiter)
-    × (new ≡ record (put waiter (record { number = (place_of old waiter).number; due = Some (due_of old waiter) }) old) { waits = counted old.waits })
+    × (new ≡ record (put waiter (record { number = (place_of old waiter).number; due = Some (due_of old waiter) }) old)
+    { waits = counted old.waits })
 
 -- it was answered
 abbrev pub passed : ℕ → ScriptedFleet → ScriptedFleet
@@ -85,6 +87,7 @@ abbrev pub Does : ScriptedFleet → FleetCall → ScriptedFleet → Type 0
 Does old (timed call) new = Makes old (Timers call) new
 Does old (drew word) new = Makes old (Word word) new
 Does old parked new = Makes old Park new
-Does old (polled waiter (Ok (Some found))) new = (found ≡ told_by (poll_of old waiter)) × Makes old (Poll waiter told.Answered) new
+Does old (polled waiter (Ok (Some found))) new =
+    (found ≡ told_by (poll_of old waiter)) × Makes old (Poll waiter told.Answered) new
 Does old (polled waiter (Ok None)) new = Makes old (Poll waiter told.Pending) new
 Does old (polled waiter (Err refused)) new = Makes old (Poll waiter told.OutOfMemory) new

@@ -12,6 +12,7 @@ use Rattle.waiter_fleet.specs.declared.plan.Plan.{Plan}
 use Rattle.cli_waiters.specs.declared.fleet.places.Place.{Place}
 use Rattle.cli_waiters.specs.declared.fleet.waiter.ScriptedWaiter.{ScriptedWaiter}
 
+-- the plan of each waiter: its delays and its longest wait
 abbrev pub plans_of : List ScriptedWaiter → List Plan
 plans_of waiters = map (λ w. w.plan) waiters
 

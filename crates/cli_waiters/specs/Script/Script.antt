@@ -1,5 +1,6 @@
 -- Which script of `waiters` a text is.
-use Rattle.std.specs.Prelude.{ℕ, ◌≡◌, ◌^◌, List, [], ◌∷◌, length, Bool, ◌&&◌, Option, Some, None, codes, nat_le, IsUtf8, if◌then◌else◌}
+use Rattle.std.specs.Prelude.{ℕ, ◌≡◌, ◌^◌, List, [], ◌∷◌, length, Bool, ◌&&◌, Option, Some, None, codes, nat_le, IsUtf8}
+use Rattle.std.specs.Prelude.{if◌then◌else◌}
 use Rattle.std.specs.List.{list_all}
 use Rattle.serde_json.specs.Data.{Data}
 use Rattle.serde_json.specs.Find.{get, as_array}
@@ -19,21 +20,33 @@ use Rattle.cli_waiters.specs.declared.script.terms.WaitersScript.{WaitersScript}
 
 -- a capacity, the costs of a retry, of throttling and of a transient error, a reward and a rate
 unfoldable pub bucket_at : Data → Option BucketTerms
-bucket_at d = sextuple_at d >>= λ p. number_at p.0 >>= λ c. number_below (2 ^ 32) p.1 >>= λ r. number_below (2 ^ 32) p.2 >>= λ h. number_below (2 ^ 32) p.3 >>= λ t. number_at p.4 >>= λ w. number_at p.5 >>= λ f.
-    Some (record { capacity = c; retry_cost = r; throttling_retry_cost = h; timeout_retry_cost = t; success_reward = w; refill_rate = f })
+bucket_at d = sextuple_at d >>= λ p. number_at p.0 >>= λ c. number_below (2 ^ 32) p.1 >>= λ r.
+    number_below (2 ^ 32) p.2 >>= λ h. number_below (2 ^ 32) p.3 >>= λ t. number_at p.4 >>= λ w. number_at p.5 >>= λ f.
+    Some (record {
+      capacity = c;
+      retry_cost = r;
+      throttling_retry_cost = h;
+      timeout_retry_cost = t;
+      success_reward = w;
+      refill_rate = f;
+    })
 
+-- the least and the greatest delay of a waiter, and its longest wait
 unfoldable pub plan_at : Data → Option Plan
-plan_at d = get (codes "min") d >>= number_at >>= λ a. get (codes "max") d >>= number_at >>= λ b. get (codes "max_wait") d >>= number_at >>= λ w.
-    Some (record { min_delay = a; max_delay = b; max_wait = w })
+plan_at d = get (codes "min") d >>= number_at >>= λ a. get (codes "max") d >>= number_at >>= λ b.
+    get (codes "max_wait") d >>= number_at >>= λ w. Some (record { min_delay = a; max_delay = b; max_wait = w })
 
+-- a waiter: its plan and its polls, and no other member
 unfoldable pub waiter_at : Data → Option ScriptedWaiter
-waiter_at d = only_among waiter_members d >>= λ _. plan_at d >>= λ p. get (codes "polls") d >>= polls_at >>= λ ps. Some (record { plan = p; polls = ps })
+waiter_at d = only_among waiter_members d >>= λ _. plan_at d >>= λ p. get (codes "polls") d >>= polls_at >>= λ ps.
+    Some (record { plan = p; polls = ps })
 
 -- at least one waiter
 abbrev pub some_of : List ScriptedWaiter → Option (List ScriptedWaiter)
 some_of [] = None
 some_of (waiter ∷ waiters) = Some (waiter ∷ waiters)
 
+-- the waiters of a script, of which there is one at least
 unfoldable pub waiters_at : Data → Option (List ScriptedWaiter)
 waiters_at d = as_array d >>= list_of waiter_at >>= some_of
 
@@ -45,9 +58,11 @@ are_good waiters = list_all (λ w. is_good w.plan) waiters
 abbrev pub good_of : WaitersScript → Option WaitersScript
 good_of s = if are_good s.waiters then Some s else None
 
+-- the script that JSON spells: its members and no other, and each waiter can follow its plan
 unfoldable pub script_at : Data → Option WaitersScript
-script_at d = only_among script_members d >>= λ _. get (codes "bucket") d >>= bucket_at >>= λ b. get (codes "start") d >>= number_at >>= λ m.
-    get (codes "fuel") d >>= number_at >>= λ f. get (codes "words") d >>= words_at >>= λ ws. get (codes "waiters") d >>= waiters_at >>= λ w.
+script_at d = only_among script_members d >>= λ _. get (codes "bucket") d >>= bucket_at >>= λ b.
+    get (codes "start") d >>= number_at >>= λ m. get (codes "fuel") d >>= number_at >>= λ f.
+    get (codes "words") d >>= words_at >>= λ ws. get (codes "waiters") d >>= waiters_at >>= λ w.
     good_of (record { bucket = b; start = m; fuel = f; words = ws; waiters = w })
 
 -- The bytes are the text of this script.

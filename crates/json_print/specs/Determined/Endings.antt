@@ -8,4 +8,6 @@ use Rattle.smithy_types.specs.declared.kinds.StopPoint.{StopPoint}
 
 -- a run of one head, up to one point, with the same entries ends in one way
 abbrev pub EndingsAreDetermined : Type 0
-EndingsAreDetermined = (head : RunHead) (stop : StopPoint) (log : List Entry) (first second : Ending) → EndsBy head stop [] log first → EndsBy head stop [] log second → first ≡ second
+EndingsAreDetermined =
+    (head : RunHead) (stop : StopPoint) (log : List Entry) (first second : Ending) → EndsBy head stop [] log first
+    → EndsBy head stop [] log second → first ≡ second

@@ -21,20 +21,32 @@ lazy_of parts = if is_none (refusal parts) then Some (built parts) else None
 
 -- a buffer, an expiration, partitions, and a load timeout or null
 unfoldable pub lazy_at : Data → Option SharedIdentityCache
-lazy_at d = quadruple_at d >>= λ p. number_at p.0 >>= λ b. number_at p.1 >>= λ e. number_at p.2 >>= λ m. optional_at number_at p.3 >>= λ t.
-    lazy_of (record { time_source = false; sleep_impl = false; load_timeout = t; buffer_time = Some b; default_expiration = Some e; max_partitions = Some m })
+lazy_at d = quadruple_at d >>= λ p. number_at p.0 >>= λ b. number_at p.1 >>= λ e. number_at p.2 >>= λ m.
+    optional_at number_at p.3 >>= λ t.
+    lazy_of (record {
+      time_source = false;
+      sleep_impl = false;
+      load_timeout = t;
+      buffer_time = Some b;
+      default_expiration = Some e;
+      max_partitions = Some m;
+    })
 
+-- the identity cache of a client: none, or a lazy one
 unfoldable pub cache_at : Data → Option SharedIdentityCache
 cache_at d = if says (codes "none") d then Some caches.NoCache else (tagged_at (codes "lazy") d >>= lazy_at)
 
 -- options, schemes, identities, a preference or null, and a cache; what is said of schemes of HTTP is of these schemes
 unfoldable pub auth_schemes_at : List HttpSchemeChoice → Data → Option AuthSchemes
-auth_schemes_at https d = quintuple_at d >>= λ p. cache_at p.4 >>= λ c. texts_at p.0 >>= λ o. texts_at p.1 >>= λ s. placed s https >>= λ h. sources_at p.2 >>= λ i. optional_at texts_at p.3 >>= λ f.
+auth_schemes_at https d = quintuple_at d >>= λ p. cache_at p.4 >>= λ c. texts_at p.0 >>= λ o. texts_at p.1 >>= λ s.
+    placed s https >>= λ h. sources_at p.2 >>= λ i. optional_at texts_at p.3 >>= λ f.
     Some (record { options = o; schemes = s; http_schemes = h; identities = i; preference = f; cache = c })
 
 -- nothing signs, and so nothing may be said of schemes of HTTP
 abbrev pub unsigned : List HttpSchemeChoice → Option AuthChoice
 unsigned https = if length https == 0 then Some auths.NoAuth else None
 
+-- how a client's requests are signed: not at all, or by auth schemes
 unfoldable pub auth_at : List HttpSchemeChoice → Data → Option AuthChoice
-auth_at https d = if says (codes "none") d then unsigned https else (auth_schemes_at https d >>= λ s. Some (auths.Schemes s))
+auth_at https d = if says (codes "none") d then unsigned https
+    else (auth_schemes_at https d >>= λ s. Some (auths.Schemes s))

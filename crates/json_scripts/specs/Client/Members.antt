@@ -5,6 +5,7 @@ use Rattle.serde_json.specs.Find.{as_object}
 use Rattle.json_forms.specs.Forms.{member_count}
 use Rattle.json_forms.specs.Reading.{◌>>=◌}
 
+-- there are exactly n members
 abbrev pub has_members : ℕ → Members → Option (Unit {0})
 has_members n ms = if member_count ms == n then Some tt else None
 

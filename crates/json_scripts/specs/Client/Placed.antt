@@ -9,6 +9,7 @@ use Rattle.json_scripts.specs.declared.client.terms.InvocationRecord.{Invocation
 abbrev pub RulesHaveBucket : ℕ → ClientRules → Type 0
 RulesHaveBucket buckets r = IfSome r.bucket (λ b. b < buckets)
 
+-- the bucket that a client names, if it names one, is one of so many
 abbrev pub HasBucket : ℕ → ClientObject → Type 0
 HasBucket buckets c = RulesHaveBucket buckets c.rules
 

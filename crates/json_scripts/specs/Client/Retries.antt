@@ -14,8 +14,10 @@ use Rattle.json_scripts.specs.declared.client.terms.RetryChoice.TheVariants as r
 
 -- `never`, or the value of the Retry setting
 unfoldable pub retry_choice_at : Data → Option RetryChoice
-retry_choice_at d = if says (codes "never") d then Some retries.Never else (retry_at d >>= λ r. Some (retries.Standard r))
+retry_choice_at d = if says (codes "never") d then Some retries.Never
+    else (retry_at d >>= λ r. Some (retries.Standard r))
 
+-- a status of HTTP, of 16 bits
 unfoldable pub code_at : Data → Option ℕ
 code_at d = number_below (2 ^ 16) d
 
@@ -25,5 +27,6 @@ classifier_at d = if says (codes "modeled") d then Some classifiers.Modeled
     else (if says (codes "transient") d then Some classifiers.Transient
     else (tagged_at (codes "status") d >>= as_array >>= list_of code_at >>= λ cs. Some (classifiers.Status cs)))
 
+-- the classifiers of a client
 unfoldable pub classifiers_at : Data → Option (List ClassifierChoice)
 classifiers_at d = as_array d >>= list_of classifier_at

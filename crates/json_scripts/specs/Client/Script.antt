@@ -14,8 +14,10 @@ use Rattle.json_scripts.specs.declared.client.script.ClientScript.{ClientScript}
 
 -- five members, each of its form
 unfoldable pub client_script_at : Data → Option ClientScript
-client_script_at d = members_at 5 d >>= λ _. get (codes "start") d >>= number_at >>= λ s. get (codes "buckets") d >>= buckets_at >>= λ bs. get (codes "words") d >>= words_at >>= λ ws.
-    get (codes "clients") d >>= clients_at (length bs) >>= λ cs. get (codes "invocations") d >>= invocations_at (length cs) >>= λ is.
+client_script_at d = members_at 5 d >>= λ _. get (codes "start") d >>= number_at >>= λ s.
+    get (codes "buckets") d >>= buckets_at >>= λ bs. get (codes "words") d >>= words_at >>= λ ws.
+    get (codes "clients") d >>= clients_at (length bs) >>= λ cs.
+    get (codes "invocations") d >>= invocations_at (length cs) >>= λ is.
     Some (record { buckets = bs; start = s; words = ws; clients = cs; invocations = is })
 
 -- The bytes are the text of this script.

@@ -17,7 +17,8 @@ caller_runs c = length c.invocations
 abbrev pub caller_fuel : CallerRecord → ℕ
 caller_fuel c = sum_by fuel_of c.invocations
 
--- A capacity up to 500000000, texts and heads within their limits, at most 16 callers, and of all callers together at most 10000 invocations and 100000 of fuel.
+-- a capacity up to 500000000, texts and heads within their limits, at most 16 callers,
+-- and of all callers together at most 10000 invocations and 100000 of fuel
 unfoldable pub fleet_script_fits : FleetScript → Bool
 fleet_script_fits s = capacity_fits s.bucket && (list_all caller_fits s.callers && (nat_le (length s.callers) 16
     && (nat_le (sum_by caller_runs s.callers) 10000 && nat_le (sum_by caller_fuel s.callers) 100000)))

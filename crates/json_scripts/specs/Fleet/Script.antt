@@ -13,9 +13,9 @@ use Rattle.json_scripts.specs.declared.fleet.terms.FleetScript.{FleetScript}
 
 -- four members, each of its form
 unfoldable pub fleet_script_at : Data → Option FleetScript
-fleet_script_at d = members_at 4 d >>= λ _. get (codes "bucket") d >>= bucket_terms_at >>= λ b. get (codes "start") d >>= number_at >>= λ s. get (codes "words") d >>= words_at >>= λ ws.
-    get (codes "callers") d >>= callers_at >>= λ cs.
-    Some (record { bucket = b; start = s; words = ws; callers = cs })
+fleet_script_at d = members_at 4 d >>= λ _. get (codes "bucket") d >>= bucket_terms_at >>= λ b.
+    get (codes "start") d >>= number_at >>= λ s. get (codes "words") d >>= words_at >>= λ ws.
+    get (codes "callers") d >>= callers_at >>= λ cs. Some (record { bucket = b; start = s; words = ws; callers = cs })
 
 -- The bytes are the text of this script.
 abbrev pub IsFleetScript : List ℕ → FleetScript → Type 0

@@ -1,5 +1,6 @@
 -- The script that is made from a number of invocations and a seed.
-use Rattle.std.specs.Prelude.{ℕ, zero, suc, ◌+◌, ◌%◌, List, [], ◌∷◌, ◌++◌, Option, None, Some, true, false, codes, replicate}
+use Rattle.std.specs.Prelude.{ℕ, zero, suc, ◌+◌, ◌%◌, List, [], ◌∷◌, ◌++◌, Option, None, Some, true, false, codes}
+use Rattle.std.specs.Prelude.{replicate}
 use Rattle.std.specs.Fmt.{decimal}
 use Rattle.json_scripts.specs.declared.client.script.ClientScript.{ClientScript}
 use Rattle.json_scripts.specs.declared.client.terms.AuthChoice.TheVariants as auths
@@ -25,7 +26,15 @@ made_bucket = record { capacity = 500; retry_cost = 5; throttling_cost = 5; tran
 abbrev pub made_rules : ClientRules
 made_rules = record {
   bucket = Some 0;
-  retry = retries.Standard (record { mode = modes.Standard; max_attempts = 3; initial_backoff = 1000000000; max_backoff = 20000000000; reconnect = reconnects.ReconnectOnTransientError; static_base = true; spec = None });
+  retry = retries.Standard (record {
+    mode = modes.Standard;
+    max_attempts = 3;
+    initial_backoff = 1000000000;
+    max_backoff = 20000000000;
+    reconnect = reconnects.ReconnectOnTransientError;
+    static_base = true;
+    spec = None;
+  });
   timeouts = record { connect = None; read = None; operation = None; attempt = None };
   stall = None;
   flags = record { sleep = true; time = true; poisoning = false; enforce = false; v2 = true };
@@ -42,7 +51,10 @@ made_client = record {
 
 -- a response of this status that comes at once, with these frames
 abbrev pub response_at_once : ℕ → List Frame → ResponseRecord
-response_at_once status frames = record { delay = 0; answer = answers.Response (record { status = status; headers = []; frames = frames; repeat = false; clock = None }) }
+response_at_once status frames = record {
+  delay = 0;
+  answer = answers.Response (record { status = status; headers = []; frames = frames; repeat = false; clock = None });
+}
 
 -- the service is unavailable so often
 abbrev pub unavailable : ℕ → List ResponseRecord
@@ -69,4 +81,10 @@ made_invocations seed (suc n) = made_invocations seed n ++ made_invocation (n + 
 
 -- the script of so many invocations
 abbrev pub made_script : ℕ → ℕ → ClientScript
-made_script count seed = record { buckets = made_bucket ∷ []; start = 0; words = []; clients = made_client ∷ []; invocations = made_invocations seed count }
+made_script count seed = record {
+  buckets = made_bucket ∷ [];
+  start = 0;
+  words = [];
+  clients = made_client ∷ [];
+  invocations = made_invocations seed count;
+}

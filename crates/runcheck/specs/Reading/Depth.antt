@@ -30,5 +30,6 @@ HasFew n (Asking k es r) = (fs : List Frame) → r ≡ plug fs Nothing → lengt
 HasFew n (Waiting k es ds r) = (fs : List Frame) → r ≡ plug fs Nothing → length fs ≤ n
 HasFew n (Cutting k d r) = (fs : List Frame) → r ≡ plug fs Nothing → length fs ≤ n
 
+-- wherever a run of such a production stands, at most so many frames are left
 abbrev pub FewFrames : Type 0
 FewFrames = (n : ℕ) (p : Production) → IsWithin n p → (s : State) (l : List Entry) → HasFew n (after (begin p s) s l)

@@ -3,7 +3,8 @@ use Rattle.std.specs.Prelude.{Bool, true, false, Option, None, Some, option_map,
 use Rattle.run_grammar.specs.declared.kind.Role.{Role}
 use Rattle.run_grammar.specs.Standing.{State}
 use Rattle.run_grammar.specs.Production.{Production, Nothing, ◌⨟◌, Rounds, InAttempt, Under}
-use Rattle.run_grammar.specs.Machine.{Spot, AtEnd, AtAgain, At, Rest, Left, Out, first, then_spot, round_spot, under_spot, within_spot}
+use Rattle.run_grammar.specs.Machine.{Spot, AtEnd, AtAgain, At, Rest, Left, Out, first, then_spot, round_spot}
+use Rattle.run_grammar.specs.Machine.{under_spot, within_spot}
 use Rattle.runcheck.specs.declared.reading.walk.Frame.{Frame}
 use Rattle.runcheck.specs.declared.reading.walk.Frame.TheVariants.{Then, Round, Scope, Within}
 use Rattle.runcheck.specs.declared.reading.walk.Begun.{Begun}
@@ -11,6 +12,7 @@ use Rattle.runcheck.specs.declared.reading.walk.Begun.TheVariants as begun
 use Rattle.runcheck.specs.declared.reading.walk.Seen.{Seen}
 use Rattle.runcheck.specs.Reading.Productions.{production_of}
 
+-- what a walk has seen, as a state of the grammar: what stands, and the last entry
 abbrev pub state_of : Seen → State
 state_of v = record { context = v.standing.now; last = option_map (λ r. r.now) v.last }
 
@@ -26,10 +28,12 @@ abbrev pub plug : List Frame → Production → Production
 plug [] r = r
 plug (f ∷ fs) r = wrap f (plug fs r)
 
+-- a scope arms its deadline, and other frames none
 abbrev pub arms : Frame → List Role → List Role
 arms (Scope d q) ds = d ∷ ds
 arms _ ds = ds
 
+-- these deadlines with those that the frames arm, the inner first
 abbrev pub armed_in : List Role → List Frame → List Role
 armed_in ds [] = ds
 armed_in ds (f ∷ fs) = armed_in (arms f ds) fs
@@ -44,14 +48,17 @@ Found begun.Over fs gs t = (gs ≡ fs) × (t ≡ AtEnd)
 Found begun.Further fs gs t = (gs ≡ fs) × (t ≡ AtAgain)
 Found (begun.At k) fs gs t = (hs : List Frame) × (gs ≡ fs ++ hs) × (t ≡ At k (armed gs) (plug hs Nothing))
 
+-- nothing is asked, and the production is over
 abbrev pub is_over : Begun → Bool
 is_over begun.Over = true
 is_over _ = false
 
+-- nothing is asked, and a further round follows
 abbrev pub is_further : Begun → Bool
 is_further begun.Further = true
 is_further _ = false
 
+-- a further round counts as over
 abbrev pub or_over : Begun → Begun
 or_over begun.Further = begun.Over
 or_over b = b
@@ -62,10 +69,12 @@ through f AtEnd = AtEnd
 through f AtAgain = AtAgain
 through f (At k es r) = At k es (wrap f r)
 
+-- a question is asked
 abbrev pub is_at : Begun → Bool
 is_at (begun.At k) = true
 is_at _ = false
 
+-- where a production stands that asks nothing: at a further round, or at its end
 abbrev pub spot_of : Begun → Spot
 spot_of begun.Further = AtAgain
 spot_of _ = AtEnd

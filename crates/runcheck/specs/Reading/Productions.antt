@@ -2,6 +2,7 @@
 use Rattle.runcheck.specs.declared.reading.production.Production as code
 use Rattle.run_grammar.specs.Production.{Production, Nothing, Work, ◌⨟◌, Where, Rounds, Again, InAttempt, Under}
 
+-- the production of the grammar that the code's tree is
 abbrev pub production_of : code.Production → Production
 production_of code.Nothing = Nothing
 production_of (code.Work k) = Work k
