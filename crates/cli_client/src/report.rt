@@ -11,7 +11,7 @@ use crate::tally::{Tally, count_runs};
 use cli_client_runs::ClientSet;
 use cli_client_runs::print::sums_of;
 use cli_shell::status::PrintStatus;
-use client_retries::TakeOffer;
+use client_retries::{InterceptorMeaning, TakeOffer};
 use client_scripted::ClientQuota;
 use json_forms::{Json, Row};
 use json_scripts::client::InvocationRecord;
@@ -43,13 +43,7 @@ pub fn report_on<C: ClassifyRetry, I: TakeOffer>(
 ) -> Result<(Vec<u8>, PrintStatus), OutOfMemory>
     requires { All (HasClient (length set.old.clients.items)) invocations }
     ensures { IfOk result (λ told. Reports
-        (ServedBy C.says (record {
-          names = I.names;
-          hooks = I.hooks;
-          runs = I.runs;
-          with_bucket = I.with_bucket;
-          with_verdict = I.with_verdict;
-        })) report set.old invocations
+        (ServedBy C.says ⟦<I as InterceptorMeaning>⟧.means) report set.old invocations
         set.new told.0.items told.1) }
 {
     match report {
@@ -66,13 +60,7 @@ fn print<C: ClassifyRetry, I: TakeOffer>(
 ) -> Result<(Vec<u8>, PrintStatus), OutOfMemory>
     requires { All (HasClient (length set.old.clients.items)) invocations }
     ensures { IfOk result (λ told. Reports
-        (ServedBy C.says (record {
-          names = I.names;
-          hooks = I.hooks;
-          runs = I.runs;
-          with_bucket = I.with_bucket;
-          with_verdict = I.with_verdict;
-        })) Report.Print set.old
+        (ServedBy C.says ⟦<I as InterceptorMeaning>⟧.means) Report.Print set.old
         invocations set.new told.0.items told.1) }
 {
     let mut out = Vec::new(alloc);
@@ -90,13 +78,7 @@ fn count_all<C: ClassifyRetry, I: TakeOffer>(
 ) -> Result<(Vec<u8>, PrintStatus), OutOfMemory>
     requires { All (HasClient (length set.old.clients.items)) invocations }
     ensures { IfOk result (λ told. Counts
-        (ServedBy C.says (record {
-          names = I.names;
-          hooks = I.hooks;
-          runs = I.runs;
-          with_bucket = I.with_bucket;
-          with_verdict = I.with_verdict;
-        })) count seed set.old
+        (ServedBy C.says ⟦<I as InterceptorMeaning>⟧.means) count seed set.old
         invocations set.new told.0.items told.1) }
 {
     let tally = count_runs(alloc, set, invocations)?;

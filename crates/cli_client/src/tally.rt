@@ -6,7 +6,7 @@ ghost use Rattle.json_scripts.specs.Client.Placed.{HasClient};
 ghost use Rattle.cli_client.specs.Tally.{Tallies, TalliesOne, is_output};
 
 use cli_client_runs::ClientSet;
-use client_retries::TakeOffer;
+use client_retries::{InterceptorMeaning, TakeOffer};
 use json_print::Ending;
 use json_scripts::client::InvocationRecord;
 use retry_policy::ClassifyRetry;
@@ -62,13 +62,7 @@ pub fn count_runs<C: ClassifyRetry, I: TakeOffer>(
 ) -> Result<Tally, OutOfMemory>
     requires { All (HasClient (length set.old.clients.items)) invocations }
     ensures { IfOk result (λ t. Tallies
-        (ServedBy C.says (record {
-          names = I.names;
-          hooks = I.hooks;
-          runs = I.runs;
-          with_bucket = I.with_bucket;
-          with_verdict = I.with_verdict;
-        })) set.old invocations t
+        (ServedBy C.says ⟦<I as InterceptorMeaning>⟧.means) set.old invocations t
         set.new) }
 {
     let mut tally = Tally::new();
@@ -87,13 +81,7 @@ fn tally_one<C: ClassifyRetry, I: TakeOffer>(
 ) -> Result<Tally, OutOfMemory>
     requires { invocation.client < length set.old.clients.items }
     ensures { IfOk result (λ t. TalliesOne
-        (ServedBy C.says (record {
-          names = I.names;
-          hooks = I.hooks;
-          runs = I.runs;
-          with_bucket = I.with_bucket;
-          with_verdict = I.with_verdict;
-        })) set.old invocation earlier t
+        (ServedBy C.says ⟦<I as InterceptorMeaning>⟧.means) set.old invocation earlier t
         set.new) }
 {
     let (log, ending) = set.invoke(alloc, invocation)?;

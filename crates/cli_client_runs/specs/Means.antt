@@ -4,10 +4,8 @@ use Rattle.auth_endpoint.specs.declared.scheme.Signed.{Signed}
 use Rattle.auth_endpoint.specs.declared.scheme.Signed.TheVariants as signed
 use Rattle.client_auth.specs.declared.serializer.Serialized.TheVariants as serialized
 use Rattle.client_scripted.specs.Service.Service.{Signs, id_of, posted, read_outcome}
-use Rattle.client_scripted.specs.declared.service.deserializer.ServiceDeserializer.{ServiceDeserializer}
 use Rattle.client_scripted.specs.declared.service.scheme.ServiceScheme.{ServiceScheme}
-use Rattle.client_scripted.specs.declared.service.serializer.ServiceSerializer.{ServiceSerializer}
-use Rattle.client_components.specs.Serving.{Means, Served}
+use Rattle.client_components.specs.Serving.{Served}
 use Rattle.identity_cell.specs.declared.no_auth.NoAuthIdentityResolver.{NoAuthIdentityResolver}
 use Rattle.client_builder.specs.declared.scheme.IdentityResolver.{IdentityResolver}
 use Rattle.client_builder.specs.declared.scheme.IdentityResolver.TheVariants as resolvers
@@ -24,7 +22,7 @@ use Rattle.retry_quota.specs.declared.permit.Permit.{Permit}
 use Rattle.run_grammar.specs.declared.answer.Entry.{Entry}
 use Rattle.outside_scripted.specs.Makes.{Makes}
 use Rattle.outside_scripted.specs.declared.scripted_outside.ScriptedOutside.{ScriptedOutside}
-use Rattle.client_scripted.specs.Clients.{ServiceWorld}
+use Rattle.client_scripted.specs.Clients.{ServiceMeaning, ServiceWorld}
 use Rattle.smithy_context.specs.declared.context.InterceptorContext.{InterceptorContext}
 use Rattle.smithy_types.specs.declared.http.HttpRequest.{HttpRequest}
 use Rattle.smithy_types.specs.declared.identity.Endpoint.{Endpoint}
@@ -61,7 +59,7 @@ resolver_polls = λ old answer new. elim old [
 module _ {C I : Type 0} where
   -- the meaning of a client, by what its classifiers say and what its interceptors do
   abbrev pub client_means : (C → InterceptorContext → RetryAction → RetryAction) → InterceptorMeans I
-      → Means ScriptedOutside (Registers Pace) Permit Pace C I (Scheme ServiceScheme) (IdentityResolver NoAuthIdentityResolver) ServiceSerializer ServiceDeserializer
+      → ServiceMeaning ScriptedOutside (Registers Pace) C I Permit Pace
   client_means says chain = record {
     makes = Makes;
     sleeps = λ outside. true;

@@ -4,7 +4,7 @@ ghost use Rattle.cli_client_runs.specs.Means.{ServedBy};
 ghost use Rattle.cli_client_runs.specs.Invoking.{Invoked, InvokedNoting, Stops, head_of};
 
 use crate::noting::{NotedRun, run_noting};
-use client_retries::TakeOffer;
+use client_retries::{InterceptorMeaning, TakeOffer};
 use client_scripted::service::{ERROR_KIND, OUTPUT_KIND};
 use client_scripted::{ClientQuota, ScriptedClient};
 use json_print::world::run_over;
@@ -31,13 +31,7 @@ pub fn invoke<C: ClassifyRetry, I: TakeOffer>(
     invocation: InvocationRecord,
 ) -> Result<(List<Entry>, Ending), OutOfMemory>
     ensures made { IfOk result (λ ran. Invoked
-        (ServedBy C.says (record {
-          names = I.names;
-          hooks = I.hooks;
-          runs = I.runs;
-          with_bucket = I.with_bucket;
-          with_verdict = I.with_verdict;
-        })) client.old outside.old
+        (ServedBy C.says ⟦<I as InterceptorMeaning>⟧.means) client.old outside.old
         quota.old invocation ran.0 ran.1 client.new outside.new quota.new) }
     ensures lost { OnErr result (Stops client.old outside.old quota.old invocation client.new
         outside.new quota.new) }
@@ -88,13 +82,7 @@ pub fn invoke_noting<C: ClassifyRetry, I: TakeOffer>(
     moments: List<u64>,
 ) -> Result<NotedInvocation<C, I>, OutOfMemory>
     ensures { IfOk result (λ ran. InvokedNoting
-        (ServedBy C.says (record {
-          names = I.names;
-          hooks = I.hooks;
-          runs = I.runs;
-          with_bucket = I.with_bucket;
-          with_verdict = I.with_verdict;
-        })) client outside.old quota.old invocation moments ran.log ran.ending ran.client
+        (ServedBy C.says ⟦<I as InterceptorMeaning>⟧.means) client outside.old quota.old invocation moments ran.log ran.ending ran.client
         outside.new quota.new ran.moments) }
 {
     let InvocationRecord {

@@ -8,7 +8,7 @@ use crate::invocation::{NotedInvocation, invoke, invoke_noting};
 use crate::noting::Notes;
 use crate::print::{print_buckets, print_invocation, print_loads};
 use cli_shell::status::PrintStatus;
-use client_retries::TakeOffer;
+use client_retries::{InterceptorMeaning, TakeOffer};
 use client_scripted::{ClientQuota, ScriptedClient};
 use json_print::Ending;
 use json_print::print::next_number;
@@ -44,13 +44,7 @@ impl<C: ClassifyRetry, I: TakeOffer> ClientSet<C, I> {
     ) -> Result<(List<Entry>, Ending), OutOfMemory>
         requires { invocation.client < length self.old.clients.items }
         ensures { IfOk result (λ ran. InvokedIn
-            (ServedBy C.says (record {
-              names = I.names;
-              hooks = I.hooks;
-              runs = I.runs;
-              with_bucket = I.with_bucket;
-              with_verdict = I.with_verdict;
-            })) self.old invocation ran.0
+            (ServedBy C.says ⟦<I as InterceptorMeaning>⟧.means) self.old invocation ran.0
             ran.1 self.new) }
     {
         if self.notes.asked {
@@ -68,13 +62,7 @@ impl<C: ClassifyRetry, I: TakeOffer> ClientSet<C, I> {
     ) -> Result<(List<Entry>, Ending), OutOfMemory>
         requires { invocation.client < length self.old.clients.items }
         ensures { IfOk result (λ ran. InvokedIn
-            (ServedBy C.says (record {
-              names = I.names;
-              hooks = I.hooks;
-              runs = I.runs;
-              with_bucket = I.with_bucket;
-              with_verdict = I.with_verdict;
-            })) self.old invocation ran.0
+            (ServedBy C.says ⟦<I as InterceptorMeaning>⟧.means) self.old invocation ran.0
             ran.1 self.new) }
     {
         let client = &mut self.clients[invocation.client];
@@ -96,13 +84,7 @@ impl<C: ClassifyRetry, I: TakeOffer> ClientSet<C, I> {
     ) -> Result<(List<Entry>, Ending), OutOfMemory>
         requires { invocation.client < length self.old.clients.items }
         ensures { IfOk result (λ ran. InvokedIn
-            (ServedBy C.says (record {
-              names = I.names;
-              hooks = I.hooks;
-              runs = I.runs;
-              with_bucket = I.with_bucket;
-              with_verdict = I.with_verdict;
-            })) self.old invocation ran.0
+            (ServedBy C.says ⟦<I as InterceptorMeaning>⟧.means) self.old invocation ran.0
             ran.1 self.new) }
     {
         let place = invocation.client;
@@ -137,13 +119,7 @@ impl<C: ClassifyRetry, I: TakeOffer> ClientSet<C, I> {
     ) -> Result<PrintStatus, OutOfMemory>
         requires { All (HasClient (length self.old.clients.items)) invocations }
         ensures { IfOk result (λ outcome. RunsAll
-            (ServedBy C.says (record {
-              names = I.names;
-              hooks = I.hooks;
-              runs = I.runs;
-              with_bucket = I.with_bucket;
-              with_verdict = I.with_verdict;
-            })) self.old invocations
+            (ServedBy C.says ⟦<I as InterceptorMeaning>⟧.means) self.old invocations
             out.old.items self.new out.new.items outcome) }
     {
         let mut number = 0;
@@ -165,13 +141,7 @@ impl<C: ClassifyRetry, I: TakeOffer> ClientSet<C, I> {
     ) -> Result<PrintStatus, OutOfMemory>
         requires { All (HasClient (length self.old.clients.items)) invocations }
         ensures { IfOk result (λ outcome. Plays
-            (ServedBy C.says (record {
-              names = I.names;
-              hooks = I.hooks;
-              runs = I.runs;
-              with_bucket = I.with_bucket;
-              with_verdict = I.with_verdict;
-            })) self.old invocations
+            (ServedBy C.says ⟦<I as InterceptorMeaning>⟧.means) self.old invocations
             out.old.items self.new out.new.items outcome) }
     {
         let outcome = self.run_all(alloc, invocations, out)?;
@@ -190,13 +160,7 @@ impl<C: ClassifyRetry, I: TakeOffer> ClientSet<C, I> {
     ) -> Result<PrintStatus, OutOfMemory>
         requires { invocation.client < length self.old.clients.items }
         ensures { IfOk result (λ outcome. RunsOne
-            (ServedBy C.says (record {
-              names = I.names;
-              hooks = I.hooks;
-              runs = I.runs;
-              with_bucket = I.with_bucket;
-              with_verdict = I.with_verdict;
-            })) number self.old
+            (ServedBy C.says ⟦<I as InterceptorMeaning>⟧.means) number self.old
             invocation out.old.items self.new out.new.items outcome) }
     {
         let client = invocation.client;

@@ -5,13 +5,7 @@ use Rattle.cli_client_runs.proofs.Running.{asked, length_more, map_more, text_mo
 use Rattle.cli_client_runs.specs.Print.{invocation_text}
 use Rattle.cli_client_runs.specs.Running.{Ran, invocations_text}
 use Rattle.json_scripts.specs.declared.client.terms.InvocationRecord.{InvocationRecord}
-use Rattle.client_scripted.specs.declared.service.deserializer.ServiceDeserializer.{ServiceDeserializer}
-use Rattle.client_scripted.specs.declared.service.scheme.ServiceScheme.{ServiceScheme}
-use Rattle.client_scripted.specs.declared.service.serializer.ServiceSerializer.{ServiceSerializer}
-use Rattle.client_components.specs.Serving.{Means}
-use Rattle.identity_cell.specs.declared.no_auth.NoAuthIdentityResolver.{NoAuthIdentityResolver}
-use Rattle.client_builder.specs.declared.scheme.IdentityResolver.{IdentityResolver}
-use Rattle.client_builder.specs.declared.scheme.Scheme.{Scheme}
+use Rattle.client_scripted.specs.Clients.{ServiceMeaning}
 use Rattle.outside_scripted.specs.declared.records.IdentityRecord.{IdentityRecord}
 use Rattle.outside_scripted.specs.declared.scripted_outside.ScriptedOutside.{ScriptedOutside}
 use Rattle.cli_shell.specs.declared.status.PrintStatus.{PrintStatus}
@@ -25,7 +19,7 @@ last_more : (o : Option PrintStatus) (rs : List Ran) (r : Ran) → last_of o (rs
 last_more o [] r = refl
 last_more o (x ∷ rs) r = last_more (Some (came_to x.ending)) rs r
 
-module _ {Q P L C I : Type 0} (means : Means ScriptedOutside Q P L C I (Scheme ServiceScheme) (IdentityResolver NoAuthIdentityResolver) ServiceSerializer ServiceDeserializer) (identities : List IdentityRecord) where
+module _ {Q P L C I : Type 0} (means : ServiceMeaning ScriptedOutside Q C I P L) (identities : List IdentityRecord) where
   -- these were made so far, and as many are counted
   pub record RanSo (old : CallerParts Q P L C I) (before : List ℕ) (done : List InvocationRecord) (number : ℕ) (now : CallerParts Q P L C I) (text : List ℕ) (outcome : Option PrintStatus) : Type 0 where
     pub runs : List Ran

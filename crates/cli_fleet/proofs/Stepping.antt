@@ -7,14 +7,9 @@ use Rattle.retry_quota_cell.specs.Callers.{own}
 use Rattle.retry_quota_cell.specs.Known.{Place}
 use Rattle.cli_client_runs.specs.Invoking as invoking
 use Rattle.cli_client_runs.specs.Running.{Ran}
-use Rattle.client_scripted.specs.declared.service.deserializer.ServiceDeserializer.{ServiceDeserializer}
-use Rattle.client_scripted.specs.declared.service.scheme.ServiceScheme.{ServiceScheme}
-use Rattle.client_scripted.specs.declared.service.serializer.ServiceSerializer.{ServiceSerializer}
 use Rattle.client_components.specs.Retrying.{decided_view}
-use Rattle.client_components.specs.Serving.{Answers, Means, Served}
-use Rattle.identity_cell.specs.declared.no_auth.NoAuthIdentityResolver.{NoAuthIdentityResolver}
-use Rattle.client_builder.specs.declared.scheme.IdentityResolver.{IdentityResolver}
-use Rattle.client_builder.specs.declared.scheme.Scheme.{Scheme}
+use Rattle.client_scripted.specs.Clients.{ServiceMeaning}
+use Rattle.client_components.specs.Serving.{Answers, Served}
 use Rattle.outside.specs.Calls.{OutsideCall}
 use Rattle.rate_limit.specs.Pace.{Pace}
 use Rattle.client_retries.specs.Deciding.{DecidesSo, IsDecided, paused_for}
@@ -285,7 +280,7 @@ module _ (place : Place) where
   -- ---- a client
 
   module _ {C I : Type 0} (says : C → InterceptorContext → RetryAction → RetryAction) (chain : InterceptorMeans I) where
-    abbrev means : Means ScriptedOutside (Caller Pace) Permit Pace C I (Scheme ServiceScheme) (IdentityResolver NoAuthIdentityResolver) ServiceSerializer ServiceDeserializer
+    abbrev means : ServiceMeaning ScriptedOutside (Caller Pace) C I Permit Pace
     means = world_means (cell_means place) says chain
 
     abbrev TheParts : Type 0

@@ -4,14 +4,9 @@ use Rattle.cli_client_runs.specs.Invoking.{begun, head_by}
 use Rattle.cli_client_runs.specs.Print.{invocation_text}
 use Rattle.cli_client_runs.specs.Running.{Ran, invocations_text}
 use Rattle.json_scripts.specs.declared.client.terms.InvocationRecord.{InvocationRecord}
-use Rattle.client_scripted.specs.declared.service.deserializer.ServiceDeserializer.{ServiceDeserializer}
-use Rattle.client_scripted.specs.declared.service.scheme.ServiceScheme.{ServiceScheme}
-use Rattle.client_scripted.specs.declared.service.serializer.ServiceSerializer.{ServiceSerializer}
 use Rattle.client_components.specs.Resting as resting
-use Rattle.client_components.specs.Serving.{Means, Served}
-use Rattle.identity_cell.specs.declared.no_auth.NoAuthIdentityResolver.{NoAuthIdentityResolver}
-use Rattle.client_builder.specs.declared.scheme.IdentityResolver.{IdentityResolver}
-use Rattle.client_builder.specs.declared.scheme.Scheme.{Scheme}
+use Rattle.client_scripted.specs.Clients.{ServiceMeaning}
+use Rattle.client_components.specs.Serving.{Served}
 use Rattle.run_grammar.specs.declared.answer.Entry.{Entry}
 use Rattle.json_print.specs.Endings.{Ends}
 use Rattle.json_print.specs.declared.ending.Ending.{Ending}
@@ -28,7 +23,7 @@ abbrev pub last_of : Option PrintStatus → List Ran → Option PrintStatus
 last_of before [] = before
 last_of before (r ∷ rs) = last_of (Some (came_to r.ending)) rs
 
-module _ {Q P L C I : Type 0} (means : Means ScriptedOutside Q P L C I (Scheme ServiceScheme) (IdentityResolver NoAuthIdentityResolver) ServiceSerializer ServiceDeserializer) (identities : List IdentityRecord) where
+module _ {Q P L C I : Type 0} (means : ServiceMeaning ScriptedOutside Q C I P L) (identities : List IdentityRecord) where
   -- The outside gets the invocation's responses, the operation is run over the client to this ending, each entry is answered
   -- from the client's parts, and what is open is ended.
   pub record InvokedOver (old : CallerParts Q P L C I) (i : InvocationRecord) (log : List Entry) (ending : Ending) (new : CallerParts Q P L C I) : Type 0 where

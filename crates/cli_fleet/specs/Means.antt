@@ -5,15 +5,8 @@ use Rattle.retry_quota_cell.specs.Caller.{Caller, caller_meaning}
 use Rattle.retry_quota_cell.specs.Known.{Place}
 use Rattle.cli_client_runs.specs.Means.{resolver_polls, scheme_names, scheme_signs}
 use Rattle.client_scripted.specs.Service.Service.{posted, read_outcome}
-use Rattle.client_scripted.specs.declared.service.deserializer.ServiceDeserializer.{ServiceDeserializer}
-use Rattle.client_scripted.specs.declared.service.scheme.ServiceScheme.{ServiceScheme}
-use Rattle.client_scripted.specs.declared.service.serializer.ServiceSerializer.{ServiceSerializer}
-use Rattle.client_components.specs.Serving.{Means, Served}
-use Rattle.client_components.specs.declared.parts.Parts.{Parts}
-use Rattle.client_components.specs.declared.world.RuntimeComponents.{RuntimeComponents}
-use Rattle.identity_cell.specs.declared.no_auth.NoAuthIdentityResolver.{NoAuthIdentityResolver}
-use Rattle.client_builder.specs.declared.scheme.IdentityResolver.{IdentityResolver}
-use Rattle.client_builder.specs.declared.scheme.Scheme.{Scheme}
+use Rattle.client_components.specs.Serving.{Served}
+use Rattle.client_scripted.specs.Clients.{ServiceClient, ServiceMeaning, ServiceParts}
 use Rattle.rate_limit.specs.Pace.{Pace, pace_from}
 use Rattle.rate_limit.specs.Steps.{after_acquire, after_update, reply_to}
 use Rattle.client_retries.specs.Meanings.{InterceptorMeans, QuotaMeans}
@@ -27,14 +20,14 @@ use Rattle.smithy_types.specs.declared.notes.RetryAction.{RetryAction}
 
 -- a caller's client, and its parts, over a quota Q with permits P and limiters L
 abbrev pub CallerWorld : (Q P L C I : Type 0) → Type 0
-CallerWorld Q P L C I = RuntimeComponents ScriptedOutside Q C I (Scheme ServiceScheme) (IdentityResolver NoAuthIdentityResolver) ServiceSerializer ServiceDeserializer P L
+CallerWorld Q P L C I = ServiceClient ScriptedOutside Q C I P L
 
 abbrev pub CallerParts : (Q P L C I : Type 0) → Type 0
-CallerParts Q P L C I = Parts ScriptedOutside Q C I (Scheme ServiceScheme) (IdentityResolver NoAuthIdentityResolver) ServiceSerializer ServiceDeserializer P L
+CallerParts Q P L C I = ServiceParts ScriptedOutside Q C I P L
 
 -- the meaning of a client, by what its quota means, what its classifiers say and what its interceptors do
 abbrev pub world_means : {Q P L C I : Type 0} → QuotaMeans Q P L → (C → InterceptorContext → RetryAction → RetryAction) → InterceptorMeans I
-    → Means ScriptedOutside Q P L C I (Scheme ServiceScheme) (IdentityResolver NoAuthIdentityResolver) ServiceSerializer ServiceDeserializer
+    → ServiceMeaning ScriptedOutside Q C I P L
 world_means quota says chain = record {
   makes = Makes;
   sleeps = λ outside. true;
@@ -50,7 +43,7 @@ world_means quota says chain = record {
 }
 
 -- each entry is answered from the client's parts
-abbrev pub ServedOver : {Q P L C I : Type 0} → Means ScriptedOutside Q P L C I (Scheme ServiceScheme) (IdentityResolver NoAuthIdentityResolver) ServiceSerializer ServiceDeserializer
+abbrev pub ServedOver : {Q P L C I : Type 0} → ServiceMeaning ScriptedOutside Q C I P L
     → CallerWorld Q P L C I → List Entry → CallerWorld Q P L C I → Type 0
 ServedOver means old log new = Served means old.parts log new.parts
 

@@ -7,16 +7,10 @@ use Rattle.cli_client.specs.Means.{none, own_chain, own_ranked, own_says}
 use Rattle.cli_client.specs.Opening.{outside_at}
 use Rattle.json_scripts.specs.declared.client.terms.ClientObject.{ClientObject}
 use Rattle.json_scripts.specs.declared.client.terms.InvocationRecord.{InvocationRecord}
-use Rattle.client_scripted.specs.declared.service.deserializer.ServiceDeserializer.{ServiceDeserializer}
 use Rattle.client_scripted.specs.declared.service.error.ServiceError.{ServiceError}
-use Rattle.client_scripted.specs.declared.service.scheme.ServiceScheme.{ServiceScheme}
-use Rattle.client_scripted.specs.declared.service.serializer.ServiceSerializer.{ServiceSerializer}
-use Rattle.client_components.specs.Serving.{Means}
-use Rattle.identity_cell.specs.declared.no_auth.NoAuthIdentityResolver.{NoAuthIdentityResolver}
+use Rattle.client_scripted.specs.Clients.{ServiceMeaning}
 use Rattle.client_builder.specs.Built.{IsBuiltFrom}
 use Rattle.client_builder.specs.declared.own_interceptor.OwnInterceptor.{OwnInterceptor}
-use Rattle.client_builder.specs.declared.scheme.IdentityResolver.{IdentityResolver}
-use Rattle.client_builder.specs.declared.scheme.Scheme.{Scheme}
 use Rattle.rate_limit.specs.Pace.{Pace, zero_pace}
 use Rattle.client_retries.specs.Meanings.{InterceptorMeans}
 use Rattle.client_retries.specs.Strategies.{Closes}
@@ -51,7 +45,7 @@ partition_for c = caller_partition c.target.service c.rules.bucket
 
 module _ {C I : Type 0} where
   -- The invocations are made over the client, and then its strategy is closed; these steps of the bucket were made.
-  pub record PlaysAll (place : Place) (means : Means ScriptedOutside (Caller Pace) Permit Pace C I (Scheme ServiceScheme) (IdentityResolver NoAuthIdentityResolver) ServiceSerializer ServiceDeserializer)
+  pub record PlaysAll (place : Place) (means : ServiceMeaning ScriptedOutside (Caller Pace) C I Permit Pace)
       (identities : List IdentityRecord) (first : CallerParts (Caller Pace) Permit Pace C I) (invocations : List InvocationRecord) (text : List ℕ) (outcome : Option PrintStatus) (steps : List Entry) : Type 0 where
     pub last : CallerParts (Caller Pace) Permit Pace C I
     pub runs : RunsAll means identities first invocations [] last text outcome

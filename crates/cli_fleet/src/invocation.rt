@@ -1,6 +1,8 @@
 //! The invocations of a caller's client, one after another, and their print.
-ghost use Rattle.std.specs.Prelude.{◌≡◌, [], IfOk};
-ghost use Rattle.retry_quota.specs.Calls.{limiters_by};
+ghost use Rattle.std.specs.Prelude.{◌≡◌, [], IfOk, OnOk};
+ghost use Rattle.client_components.specs.Serving.{Served};
+ghost use Rattle.json_print.specs.Endings.{Ends};
+ghost use Rattle.orchestrate.specs.Handing.{HandedOn};
 ghost use Rattle.cli_fleet.specs.Invoking.{InvokedOver, RunsAll, RunsOne};
 ghost use Rattle.cli_fleet.specs.Means.{world_means};
 
@@ -9,14 +11,12 @@ use crate::gate::Gate;
 use cli_client_runs::invocation::head_of;
 use cli_client_runs::print::print_invocation;
 use cli_shell::status::PrintStatus;
-use client_builder::{IdentityResolver, Scheme};
-use client_components::RuntimeComponents;
-use client_retries::TakeOffer;
-use client_scripted::service::{ServiceDeserializer, ServiceScheme, ServiceSerializer};
-use identity_cell::NoAuthIdentityResolver;
-use json_print::Ending;
+use client_components::{ClientMeans, ClientTypes, RuntimeComponents};
+use client_retries::{InterceptorMeaning, QuotaMeaning, TakeOffer};
+use client_scripted::client::ServiceTypes;
 use json_print::print::next_number;
 use json_print::world::{PayloadOperation, outcome_of, run_over};
+use json_print::{Ending, RunHead};
 use json_scripts::client::InvocationRecord;
 use outside_scripted::IdentityRecord;
 use retry_policy::ClassifyRetry;
@@ -28,14 +28,7 @@ use std::mem;
 
 /// The client of a caller. Q is its quota, C a classifier and I an interceptor.
 pub type CallerWorld<'g, G, Q, C, I> = RuntimeComponents<
-    CallerOutside<'g, G>,
-    Q,
-    C,
-    I,
-    Scheme<ServiceScheme>,
-    IdentityResolver<NoAuthIdentityResolver>,
-    ServiceSerializer,
-    ServiceDeserializer,
+    ServiceTypes<CallerOutside<'g, G>, Q, C, I>,
 >;
 
 /// What a client calls, and what the outside answers to its loads of identities.
@@ -57,21 +50,9 @@ pub fn invoke<'g, G: Gate, Q: Quota + Drop, C: ClassifyRetry, I: TakeOffer>(
 ) -> Result<(List<Entry>, Ending), OutOfMemory>
     ensures { IfOk result (λ ran. InvokedOver
         (world_means
-        (record {
-          meaning = Q.meaning;
-          permit_bucket = Q.permit_bucket;
-          permit_amount = Q.permit_amount;
-          limiters = limiters_by Q.Limiter.at Q.Limiter.after_acquire Q.Limiter.reply_to
-              Q.Limiter.after_update;
-        })
+        ⟦<Q as QuotaMeaning>⟧.means
         C.says
-        (record {
-          names = I.names;
-          hooks = I.hooks;
-          runs = I.runs;
-          with_bucket = I.with_bucket;
-          with_verdict = I.with_verdict;
-        }))
+        ⟦<I as InterceptorMeaning>⟧.means)
         target.now.identities world.old.parts invocation ran.0 ran.1 world.new.parts) }
 {
     let InvocationRecord {
@@ -88,10 +69,25 @@ pub fn invoke<'g, G: Gate, Q: Quota + Drop, C: ClassifyRetry, I: TakeOffer>(
         .outside
         .begin_invocation(alloc, responses, identities);
     world.log = List::new();
-    let ending = run_over(alloc, &target.operation, &head, world)?;
+    let ending = run_client(alloc, &target.operation, &head, world)?;
     world.parts.end_open();
     let log = mem::replace(&mut world.log, List::new());
     Ok((log, ending))
+}
+
+// Runs the operation over the client, and tells how the run ended.
+fn run_client<T: ClientTypes>(
+    alloc: Global,
+    operation: &PayloadOperation,
+    head: &RunHead,
+    client: &mut RuntimeComponents<T>,
+) -> Result<Ending, OutOfMemory>
+    ensures ends { IfOk result (λ e. Ends head.now client.old.log client.new.log e) }
+    ensures related { OnOk result (HandedOn
+        (λ old log new. Served ⟦<T as ClientMeans>⟧.means old.parts log new.parts) client.old
+        client.new client.old.log client.new.log) }
+{
+    run_over(alloc, operation, head, client)
 }
 
 // Makes an invocation, and prints it behind what is there. Answers what it came to.
@@ -105,21 +101,9 @@ fn run_one<'g, G: Gate, Q: Quota + Drop, C: ClassifyRetry, I: TakeOffer>(
 ) -> Result<PrintStatus, OutOfMemory>
     ensures { IfOk result (λ outcome. RunsOne
         (world_means
-        (record {
-          meaning = Q.meaning;
-          permit_bucket = Q.permit_bucket;
-          permit_amount = Q.permit_amount;
-          limiters = limiters_by Q.Limiter.at Q.Limiter.after_acquire Q.Limiter.reply_to
-              Q.Limiter.after_update;
-        })
+        ⟦<Q as QuotaMeaning>⟧.means
         C.says
-        (record {
-          names = I.names;
-          hooks = I.hooks;
-          runs = I.runs;
-          with_bucket = I.with_bucket;
-          with_verdict = I.with_verdict;
-        }))
+        ⟦<I as InterceptorMeaning>⟧.means)
         target.now.identities number world.old.parts invocation out.old.items world.new.parts
         out.new.items outcome) }
 {
@@ -140,21 +124,9 @@ pub fn run_all<'g, G: Gate, Q: Quota + Drop, C: ClassifyRetry, I: TakeOffer>(
 ) -> Result<Option<PrintStatus>, OutOfMemory>
     ensures { IfOk result (λ outcome. RunsAll
         (world_means
-        (record {
-          meaning = Q.meaning;
-          permit_bucket = Q.permit_bucket;
-          permit_amount = Q.permit_amount;
-          limiters = limiters_by Q.Limiter.at Q.Limiter.after_acquire Q.Limiter.reply_to
-              Q.Limiter.after_update;
-        })
+        ⟦<Q as QuotaMeaning>⟧.means
         C.says
-        (record {
-          names = I.names;
-          hooks = I.hooks;
-          runs = I.runs;
-          with_bucket = I.with_bucket;
-          with_verdict = I.with_verdict;
-        }))
+        ⟦<I as InterceptorMeaning>⟧.means)
         target.now.identities world.old.parts invocations out.old.items world.new.parts
         out.new.items outcome) }
 {

@@ -3,7 +3,6 @@
 ghost use Rattle.std.specs.Prelude.{◌≡◌, IfOk};
 ghost use Rattle.retry_quota_cell.specs.Callers.{HasMade, IsUnused, own};
 ghost use Rattle.retry_quota_cell.specs.Known.{IsOf};
-ghost use Rattle.retry_quota.specs.Calls.{limiters_by};
 ghost use Rattle.cli_fleet.specs.Invoking.{RunsAll};
 ghost use Rattle.cli_fleet.specs.Means.{cell_means, world_means};
 ghost use Rattle.cli_fleet.specs.Working.{PlaysAll, Worked, caller_partition, partition_for};
@@ -13,7 +12,7 @@ use crate::gate::Gate;
 use crate::invocation::{CallerTarget, CallerWorld, run_all};
 use cli_shell::status::PrintStatus;
 use client_builder::BuildRefusal;
-use client_retries::TakeOffer;
+use client_retries::{InterceptorMeaning, QuotaMeaning, TakeOffer};
 use client_scripted::client::{operation_of, prepare};
 use json_print::world::PayloadOperation;
 use json_scripts::client::{ClientObject, InvocationRecord};
@@ -103,21 +102,9 @@ fn run_target<'g, G: Gate, Q: Quota + Drop, C: ClassifyRetry, I: TakeOffer>(
 ) -> Result<Option<PrintStatus>, OutOfMemory>
     ensures { IfOk result (λ outcome. RunsAll
         (world_means
-        (record {
-          meaning = Q.meaning;
-          permit_bucket = Q.permit_bucket;
-          permit_amount = Q.permit_amount;
-          limiters = limiters_by Q.Limiter.at Q.Limiter.after_acquire Q.Limiter.reply_to
-              Q.Limiter.after_update;
-        })
+        ⟦<Q as QuotaMeaning>⟧.means
         C.says
-        (record {
-          names = I.names;
-          hooks = I.hooks;
-          runs = I.runs;
-          with_bucket = I.with_bucket;
-          with_verdict = I.with_verdict;
-        }))
+        ⟦<I as InterceptorMeaning>⟧.means)
         identities world.old.parts invocations out.old.items world.new.parts out.new.items
         outcome) }
 {
@@ -140,13 +127,7 @@ fn make_all<'w, B: At, G: Gate, R: Wait, C: ClassifyRetry, I: TakeOffer>(
     ensures own { IsOf B.place result.1 }
     ensures made { HasMade (own result.1.view) result.1.view }
     ensures told { IfOk result.0 (λ told. PlaysAll B.place
-        (world_means (cell_means B.place) C.says (record {
-          names = I.names;
-          hooks = I.hooks;
-          runs = I.runs;
-          with_bucket = I.with_bucket;
-          with_verdict = I.with_verdict;
-        }))
+        (world_means (cell_means B.place) C.says ⟦<I as InterceptorMeaning>⟧.means)
         identities world.entry.parts invocations told.text.items told.outcome
         (own result.1.view)) }
 {

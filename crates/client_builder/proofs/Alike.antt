@@ -28,9 +28,9 @@ module _ {I O E A R Z D V W : Type 0} {v : V → Type 0} {w : W → Type 0} wher
     sources_room = h.sources_room;
   }
 
-module _ {X Q P L I O E A R Z D V W : Type 0} {v : V → Type 0} {w : W → Type 0} where
+module _ {T X Q P L I O E A R Z D V W : Type 0} {v : V → Type 0} {w : W → Type 0} where
   pub parts_alike : (b : OperationBuilder I O E A R Z D V W v w) (cs : List (Classifier E V v)) (x : X) (q : Q)
-      (client : RuntimeComponents X Q (Classifier E V v) (Slot OwnInterceptor W w) (Scheme A) (IdentityResolver R) Z D P L)
+      (client : RuntimeComponents T X Q (Classifier E V v) (Slot OwnInterceptor W w) (Scheme A) (IdentityResolver R) Z D P L)
       → HasParts (record b { classifiers = cs }) x q client → HasParts b x q client
   unfolding merged_layer
   parts_alike b cs x q client h = record {

@@ -106,10 +106,10 @@ module _ {I O E A R Z D V W : Type 0} {v : V → Type 0} {w : W → Type 0} wher
   abbrev pub chain_of : OperationBuilder I O E A R Z D V W v w → List (Slot OwnInterceptor W w)
   chain_of b = front_of b ++ b.interceptors ++ option_to_list (wanted (is_enforced b) enforcing)
 
-module _ {X Q P L I O E A R Z D V W : Type 0} {v : V → Type 0} {w : W → Type 0} where
+module _ {T X Q P L I O E A R Z D V W : Type 0} {v : V → Type 0} {w : W → Type 0} where
   -- the client has the builder's parts, the outside and the quota; nothing is open, and nothing was asked
   pub record HasParts (b : OperationBuilder I O E A R Z D V W v w) (outside : X) (quota : Q)
-      (client : RuntimeComponents X Q (Classifier E V v) (Slot OwnInterceptor W w) (Scheme A) (IdentityResolver R) Z D P L) : Type 0 where
+      (client : RuntimeComponents T X Q (Classifier E V v) (Slot OwnInterceptor W w) (Scheme A) (IdentityResolver R) Z D P L) : Type 0 where
     pub settings : client.parts.given.client ≡ client_layer (unwrap_or b.service_name []) b
     pub sleep_impl : client.parts.given.sleep_impl ≡ has_sleep b
     pub time_source : client.parts.given.time_source ≡ has_time b
@@ -131,7 +131,7 @@ module _ {X Q P L I O E A R Z D V W : Type 0} {v : V → Type 0} {w : W → Type
 
   -- and its classifiers stand in the order in which they are asked
   pub record IsBuiltFrom (ranked : Classifier E V v → ℤ) (b : OperationBuilder I O E A R Z D V W v w) (outside : X) (quota : Q)
-      (client : RuntimeComponents X Q (Classifier E V v) (Slot OwnInterceptor W w) (Scheme A) (IdentityResolver R) Z D P L) : Type 0 where
+      (client : RuntimeComponents T X Q (Classifier E V v) (Slot OwnInterceptor W w) (Scheme A) (IdentityResolver R) Z D P L) : Type 0 where
     pub parts : HasParts b outside quota client
     pub classifiers : IsByPriority ranked b.classifiers client.parts.given.classifiers.items
 

@@ -20,7 +20,7 @@ use client_auth::{
     SerializeRequest, Serializer,
 };
 use client_call::{Call, Sleeps};
-use client_components::{Given, Parts, RuntimeComponents};
+use client_components::{Given, Parts, RuntimeComponents, TypesOf};
 use client_retries::RetryStrategy;
 use identity_cell::{NoAuthIdentityResolver, ResolveIdentity};
 use orchestrate::Operation;
@@ -32,17 +32,9 @@ use smithy_types::{List, ProvideErrorKind, Text, Wire};
 use std::alloc::Global;
 use std::mem;
 
-/// A client that a builder builds, over an outside X and a quota Q, for modelled errors E. The
-/// other types are the program's own scheme, resolver, serializer and deserializer.
-pub type Client<
-    X,
-    Q,
-    E,
-    A = SharedAuthScheme,
-    R = SharedIdentityResolver,
-    Z = Serializer,
-    D = Deserializer,
-> = RuntimeComponents<
+/// The types of a client that a builder builds, over an outside X and a quota Q, for modelled
+/// errors E. The other types are the program's own scheme, resolver, serializer and deserializer.
+pub type BuiltTypes<X, Q, E, A, R, Z, D> = TypesOf<
     X,
     Q,
     Classifier<E>,
@@ -52,6 +44,17 @@ pub type Client<
     Z,
     D,
 >;
+
+/// A client that a builder builds. Where a program names no types of its own, it brings boxes.
+pub type Client<
+    X,
+    Q,
+    E,
+    A = SharedAuthScheme,
+    R = SharedIdentityResolver,
+    Z = Serializer,
+    D = Deserializer,
+> = RuntimeComponents<BuiltTypes<X, Q, E, A, R, Z, D>>;
 
 impl<
     I: Wire + Drop,
@@ -113,7 +116,7 @@ impl<
         let no_auth = self.has_no_auth();
         let last = self.last_interceptor();
         let deserializer = self.deserializer.unwrap();
-        let parts = Parts {
+        let parts: Parts<BuiltTypes<X, Q, E, A, R, Z, D>> = Parts {
             given: Given {
                 client: prepared.settings,
                 sleep_impl,

@@ -17,7 +17,7 @@ mod room;
 pub mod scheme;
 pub mod setting;
 
-pub use build::Client;
+pub use build::{BuiltTypes, Client};
 pub use builder::{AuthOptions, OperationBuilder, RegisteredDeserializer, StrategyKind};
 pub use handing_on::{added, refusal_of};
 pub use own_interceptor::OwnInterceptor;

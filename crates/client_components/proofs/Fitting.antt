@@ -57,7 +57,8 @@ use Rattle.smithy_types.specs.declared.notes.RetryAction.{RetryAction}
 use Rattle.smithy_types.specs.declared.payload.Payload.{Payload}
 use Rattle.client_components.specs.Calling.{Abandons}
 use Rattle.client_components.specs.Retrying.{Configures}
-use Rattle.client_components.specs.Serving.{Means, Answers}
+use Rattle.client_components.specs.Meaning.{ClientMeaning}
+use Rattle.client_components.specs.Serving.{Answers}
 use Rattle.client_components.specs.declared.parts.Parts.{Parts}
 
 -- an answer that is another one fits as that one does
@@ -203,14 +204,14 @@ unfolding fits
 deserializes_fit says d None settings a h = same_fits kinds.Deserialize a answers.Absent h refl
 deserializes_fit says d (Some response) settings a h = same_fits kinds.Deserialize a _ h.2 refl
 
-module _ {X Q P L C I A R Z D : Type 0} (means : Means X Q P L C I A R Z D) where
-  configures_fit : (old new : Parts X Q C I A R Z D P L) (stage : ConfigureStage) (a : Answer) → Configures means.makes old stage a new → fits (kinds.Configure stage) a ≡ true
+module _ {T X Q C I A R Z D P L : Type 0} (means : ClientMeaning T X Q C I A R Z D P L) where
+  configures_fit : (old new : Parts T X Q C I A R Z D P L) (stage : ConfigureStage) (a : Answer) → Configures means.makes old stage a new → fits (kinds.Configure stage) a ≡ true
   unfolding fits
   configures_fit old new Client a h = same_fits (kinds.Configure Client) a _ h.0 refl
   configures_fit old new Operation a h = same_fits (kinds.Configure Operation) a _ h.0 refl
   configures_fit old new Final a h = same_fits (kinds.Configure Final) a _ h.0 (finished_fits (has_cache old.identities && not old.given.time_source) (has_cache old.identities && not old.given.sleep_impl))
 
-  abandons_fit : (old new : Parts X Q C I A R Z D P L) (what : Abandonable) (a : Answer) → Abandons means.makes old what a new → fits (kinds.Abandon what) a ≡ true
+  abandons_fit : (old new : Parts T X Q C I A R Z D P L) (what : Abandonable) (a : Answer) → Abandons means.makes old what a new → fits (kinds.Abandon what) a ≡ true
   unfolding fits
   abandons_fit old new abandoned.Choose a h = same_fits (kinds.Abandon abandoned.Choose) a answers.Abandoned h.0 refl
   abandons_fit old new abandoned.Load a h = same_fits (kinds.Abandon abandoned.Load) a answers.Abandoned h.0 refl
@@ -221,7 +222,7 @@ module _ {X Q P L C I A R Z D : Type 0} (means : Means X Q P L C I A R Z D) wher
   abandons_fit old new abandoned.WaitRetry a h = same_fits (kinds.Abandon abandoned.WaitRetry) a answers.Abandoned h.0 refl
   abandons_fit old new abandoned.WaitLongPoll a h = same_fits (kinds.Abandon abandoned.WaitLongPoll) a answers.Abandoned h.0 refl
 
-  pub answers_fit : (old new : Parts X Q C I A R Z D P L) (q : Question) (a : Answer) → Answers means old q a new → fits (kind_of_question q) a ≡ true
+  pub answers_fit : (old new : Parts T X Q C I A R Z D P L) (q : Question) (a : Answer) → Answers means old q a new → fits (kind_of_question q) a ≡ true
   unfolding fits
   answers_fit old new (questions.Configure stage settings) a h = configures_fit old new stage a h
   answers_fit old new (questions.Hook hook view) a h =

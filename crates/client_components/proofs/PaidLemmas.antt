@@ -35,7 +35,8 @@ use Rattle.run_grammar.specs.declared.question.Question.TheVariants as questions
 use Rattle.client_components.specs.Retrying.{decided_view}
 use Rattle.client_components.proofs.QuotaLemmas.{all_keep, found_keeps, held}
 use Rattle.client_components.specs.Paying.{AnswerPays, IsPaid, Pays, PaysFor, Prices, prices_of}
-use Rattle.client_components.specs.Serving.{Means, Answers, Served}
+use Rattle.client_components.specs.Meaning.{ClientMeaning}
+use Rattle.client_components.specs.Serving.{Answers, Served}
 use Rattle.client_components.specs.declared.parts.Parts.{Parts}
 
 -- what is decided for a further attempt has its reason
@@ -99,7 +100,7 @@ choice_in _ = No
 never_pays : (prices : Prices) (settings : StandingLayers) (attempt : ℕ) (choice : Choice) (note : Option DecideNote) → choice ≡ No → PaysFor prices settings attempt choice note
 never_pays prices settings attempt choice noted e = rw e tt
 
-module _ {X Q P L C I A R Z D : Type 0} (means : Means X Q P L C I A R Z D) where
+module _ {T X Q C I A R Z D P L : Type 0} (means : ClientMeaning T X Q C I A R Z D P L) where
   abbrev prices_at : Q → Prices
   prices_at q = prices_of (means.quota.meaning q)
 
@@ -141,7 +142,7 @@ module _ {X Q P L C I A R Z D : Type 0} (means : Means X Q P L C I A R Z D) wher
   answer_pays verdict time_source c old q (answers.Decided choice noted) new calls after h = decided_pays verdict time_source c old q choice noted new calls after h
   answer_pays verdict time_source c old q _ new calls after h = tt
 
-  pays : (old new : Parts X Q C I A R Z D P L) (q : Question) (a : Answer) → Answers means old q a new → Pays (prices_at new.quota) q a
+  pays : (old new : Parts T X Q C I A R Z D P L) (q : Question) (a : Answer) → Answers means old q a new → Pays (prices_at new.quota) q a
   pays old new (questions.Decide settings request response outcome attempt) a h =
       answer_pays _ old.given.time_source (seen_context (decided_view settings request response outcome attempt)) old.strategy old.quota a new.strategy h.calls new.quota h.decided
   pays old new _ a h = tt
@@ -191,8 +192,8 @@ all_later before after (e ∷ es) kept h = (pays_later before after e.question e
 pub kept_prices : {L : Type 0} (m n : Meaning L) → ((bucket : ℕ) → m.has bucket ≡ true → KeepsThere m n bucket) → AreKept (prices_of m) (prices_of n)
 kept_prices m n keeps = λ bucket there. let k = keeps bucket there in (k.has, k.cost)
 
-module _ {X Q P L C I A R Z D : Type 0} (means : Means X Q P L C I A R Z D) where
-  pub all_paid : (old new : Parts X Q C I A R Z D P L) (l : List Entry) → Served means old l new → AllByRecursion (λ e. Pays (prices_of (held means new)) e.question e.answer) l
+module _ {T X Q C I A R Z D P L : Type 0} (means : ClientMeaning T X Q C I A R Z D P L) where
+  pub all_paid : (old new : Parts T X Q C I A R Z D P L) (l : List Entry) → Served means old l new → AllByRecursion (λ e. Pays (prices_of (held means new)) e.question e.answer) l
   all_paid old new [] h = tt
   all_paid old new (e ∷ es) (mid, serves, rest) = (
     pays_later (prices_of (held means mid)) (prices_of (held means new)) e.question e.answer

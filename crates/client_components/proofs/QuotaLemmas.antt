@@ -34,11 +34,12 @@ use Rattle.smithy_types.specs.declared.hook.Hook.{Hook}
 use Rattle.smithy_types.specs.declared.notes.RetryAction.{RetryAction}
 use Rattle.smithy_types.specs.declared.partition.RetryPartition.{RetryPartition}
 use Rattle.client_components.specs.Retrying.{calls_quota, decided_view}
-use Rattle.client_components.specs.Serving.{Means, Answers, Served}
+use Rattle.client_components.specs.Meaning.{ClientMeaning}
+use Rattle.client_components.specs.Serving.{Answers, Served}
 use Rattle.client_components.specs.declared.parts.Parts.{Parts}
 
-module _ {X Q P L C I A R Z D : Type 0} (means : Means X Q P L C I A R Z D) where
-  abbrev pub held : Parts X Q C I A R Z D P L → Meaning L
+module _ {T X Q C I A R Z D P L : Type 0} (means : ClientMeaning T X Q C I A R Z D P L) where
+  abbrev pub held : Parts T X Q C I A R Z D P L → Meaning L
   held parts = means.quota.meaning parts.quota
 
   -- a hook finds no bucket but before the retry loop
@@ -54,7 +55,7 @@ module _ {X Q P L C I A R Z D : Type 0} (means : Means X Q P L C I A R Z D) wher
       nothing_found hook view.settings h.1.offers.number (means.quota.meaning q) (means.quota.meaning after) e h.1.offers.found
 
   -- a question that doesn't call the quota leaves it
-  pub stays : (old new : Parts X Q C I A R Z D P L) (q : Question) (a : Answer) → Answers means old q a new → calls_quota q ≡ false → held new ≡ held old
+  pub stays : (old new : Parts T X Q C I A R Z D P L) (q : Question) (a : Answer) → Answers means old q a new → calls_quota q ≡ false → held new ≡ held old
   stays old new (questions.Configure stages.Client settings) a h e = ap held h.1.others
   stays old new (questions.Configure stages.Operation settings) a h e = ap held h.1
   stays old new (questions.Configure stages.Final settings) a h e = ap held h.1
@@ -109,7 +110,7 @@ module _ {L : Type 0} (limiters : Limiters L) where
   begins_keeps m settings now (answers.Delay nanos) n bucket there h = begun_keeps m settings now _ n bucket there h
   begins_keeps m settings now _ n bucket there h = absurd h
 
-module _ {X Q P L C I A R Z D : Type 0} (means : Means X Q P L C I A R Z D) where
+module _ {T X Q C I A R Z D P L : Type 0} (means : ClientMeaning T X Q C I A R Z D P L) where
   hook_keeps : (verdict : RetryAction) (hook : Hook) (view : HookView) (old : List I) (q : Q) (a : Answer) (new : List I) (calls : List OutsideCall) (after : Q) (bucket : ℕ)
       → (means.quota.meaning q).has bucket ≡ true → Hooks means.quota means.chain verdict hook view old q a new calls after → KeepsThere (means.quota.meaning q) (means.quota.meaning after) bucket
   hook_keeps verdict hook view old q a new calls after bucket there (inl h) =
@@ -139,7 +140,7 @@ module _ {X Q P L C I A R Z D : Type 0} (means : Means X Q P L C I A R Z D) wher
       decision_keeps verdict h.2.now h.2.word c standard q a h.0 after bucket there h.2.decides
 
   -- whatever is asked, a bucket that is there is kept
-  pub serving_keeps : (old new : Parts X Q C I A R Z D P L) (q : Question) (a : Answer) (bucket : ℕ) → (held means old).has bucket ≡ true → Answers means old q a new
+  pub serving_keeps : (old new : Parts T X Q C I A R Z D P L) (q : Question) (a : Answer) (bucket : ℕ) → (held means old).has bucket ≡ true → Answers means old q a new
       → KeepsThere (held means old) (held means new) bucket
   serving_keeps old new (questions.Hook hook view) a bucket there h = hook_keeps _ hook view old.interceptors.items old.quota a new.interceptors.items h.calls new.quota bucket there h.hooks
   serving_keeps old new (questions.Initial settings) a bucket there h =
@@ -149,7 +150,7 @@ module _ {X Q P L C I A R Z D : Type 0} (means : Means X Q P L C I A R Z D) wher
   serving_keeps old new q a bucket there h = kept_same means.quota.limiters (held means old) (held means new) bucket there (stays means old new q a h refl)
 
   -- so are those behind a list
-  pub all_keep : (old new : Parts X Q C I A R Z D P L) (l : List Entry) (bucket : ℕ) → (held means old).has bucket ≡ true → Served means old l new → KeepsThere (held means old) (held means new) bucket
+  pub all_keep : (old new : Parts T X Q C I A R Z D P L) (l : List Entry) (bucket : ℕ) → (held means old).has bucket ≡ true → Served means old l new → KeepsThere (held means old) (held means new) bucket
   all_keep old new [] bucket there h = kept_same means.quota.limiters (held means old) (held means new) bucket there (ap (held means) h)
   all_keep old new (e ∷ es) bucket there (mid, serves, rest) =
       let first = serving_keeps old mid e.question e.answer bucket there serves in

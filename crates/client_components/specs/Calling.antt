@@ -21,29 +21,29 @@ abbrev pub is_choose : Abandonable → Bool
 is_choose abandoned.Choose = true
 is_choose _ = false
 
-module _ {X Q C I A R Z D P L : Type 0} (makes : X → OutsideCall → X → Type 0) where
-  abbrev pub Starts : Parts X Q C I A R Z D P L → Role → Option ℕ → Answer → Parts X Q C I A R Z D P L → Type 0
+module _ {T X Q C I A R Z D P L : Type 0} (makes : X → OutsideCall → X → Type 0) where
+  abbrev pub Starts : Parts T X Q C I A R Z D P L → Role → Option ℕ → Answer → Parts T X Q C I A R Z D P L → Type 0
   Starts old role nanos a new =
       ByCalls makes old.outside (sleeping.Starts old.given.sleep_impl role nanos old.sleeps a new.sleeps) new.outside
       × (new ≡ record old { sleeps = new.sleeps; outside = new.outside })
 
-  abbrev pub Waits : Parts X Q C I A R Z D P L → Role → Answer → Parts X Q C I A R Z D P L → Type 0
+  abbrev pub Waits : Parts T X Q C I A R Z D P L → Role → Answer → Parts T X Q C I A R Z D P L → Type 0
   Waits old role a new =
       ByCalls makes old.outside (sleeping.Waits (sleeping.sleep_of role old.sleeps) a) new.outside
       × (new ≡ record old { outside = new.outside })
 
-  abbrev pub Transmits : (X → Bool) → Parts X Q C I A R Z D P L → StandingLayers → Option HttpRequest → Answer → Parts X Q C I A R Z D P L → Type 0
+  abbrev pub Transmits : (X → Bool) → Parts T X Q C I A R Z D P L → StandingLayers → Option HttpRequest → Answer → Parts T X Q C I A R Z D P L → Type 0
   Transmits sleeps old settings request a new =
       ByCalls makes old.outside (transmitting.Transmits (sleeps old.outside) settings request old.call a new.call) new.outside
       × (new ≡ record old { call = new.call; outside = new.outside })
 
-  abbrev pub Reads : (X → Bool) → Parts X Q C I A R Z D P L → StandingLayers → Option HttpResponse → Answer → Parts X Q C I A R Z D P L → Type 0
+  abbrev pub Reads : (X → Bool) → Parts T X Q C I A R Z D P L → StandingLayers → Option HttpResponse → Answer → Parts T X Q C I A R Z D P L → Type 0
   Reads sleeps old settings response a new =
       ByCalls makes old.outside (reading.Reads (sleeps old.outside) settings response old.call a new.call) new.outside
       × (new ≡ record old { call = new.call; outside = new.outside })
 
   -- a choice gives up its load, and all else the call or a sleep
-  abbrev pub Abandons : Parts X Q C I A R Z D P L → Abandonable → Answer → Parts X Q C I A R Z D P L → Type 0
+  abbrev pub Abandons : Parts T X Q C I A R Z D P L → Abandonable → Answer → Parts T X Q C I A R Z D P L → Type 0
   Abandons old abandoned.Choose a new =
       (a ≡ Abandoned) × Chained makes old.outside (ending_choice old.identities) new.outside
       × (new ≡ record old { identities = at_rest old.identities; outside = new.outside })
@@ -51,5 +51,5 @@ module _ {X Q C I A R Z D P L : Type 0} (makes : X → OutsideCall → X → Typ
       (a ≡ Abandoned) × Chained makes old.outside (abandoning pending old.sleeps old.call) new.outside
       × (new ≡ record old { sleeps = sleeps_without pending old.sleeps; call = call_without pending old.call; outside = new.outside })
 
-  abbrev pub Parks : Parts X Q C I A R Z D P L → Answer → Parts X Q C I A R Z D P L → Type 0
+  abbrev pub Parks : Parts T X Q C I A R Z D P L → Answer → Parts T X Q C I A R Z D P L → Type 0
   Parks old a new = (a ≡ Parked) × Chained makes old.outside (Park ∷ []) new.outside × (new ≡ record old { outside = new.outside })

@@ -19,34 +19,34 @@ use Rattle.client_components.specs.Resting.{Ends}
 use Rattle.client_components.specs.Retrying.{decided_view, sleeps_after, verdict_on}
 use Rattle.client_components.specs.declared.parts.Parts.{Parts}
 
-module _ {X Q C I A R Z D P L : Type 0} (makes : X → OutsideCall → X → Type 0) where
+module _ {T X Q C I A R Z D P L : Type 0} (makes : X → OutsideCall → X → Type 0) where
   -- some calls of the outside were made
-  abbrev pub CalledOutside : Parts X Q C I A R Z D P L → Parts X Q C I A R Z D P L → Type 0
+  abbrev pub CalledOutside : Parts T X Q C I A R Z D P L → Parts T X Q C I A R Z D P L → Type 0
   CalledOutside old new = (calls : List OutsideCall) × Chained makes old.outside calls new.outside
 
   -- a hook: its sleeps are given up, and the chain stops
-  pub record HookStops (says : C → InterceptorContext → RetryAction → RetryAction) (quota : QuotaMeans Q P L) (chain : InterceptorMeans I) (old : Parts X Q C I A R Z D P L) (hook : Hook) (view : HookView) (new : Parts X Q C I A R Z D P L) : Type 0 where
+  pub record HookStops (says : C → InterceptorContext → RetryAction → RetryAction) (quota : QuotaMeans Q P L) (chain : InterceptorMeans I) (old : Parts T X Q C I A R Z D P L) (hook : Hook) (view : HookView) (new : Parts T X Q C I A R Z D P L) : Type 0 where
     pub called : CalledOutside old new
     pub stops : Stops quota chain (verdict_on makes says old (seen_context view)) hook view old.interceptors.items old.quota new.interceptors.items new.quota
     pub others : new ≡ record old { sleeps = sleeps_after hook old.sleeps; interceptors = new.interceptors; outside = new.outside; quota = new.quota }
 
   -- a decision: nothing was asked, or the strategy stops
-  pub record DecideStops (says : C → InterceptorContext → RetryAction → RetryAction) (quota : QuotaMeans Q P L) (old : Parts X Q C I A R Z D P L) (view : HookView) (new : Parts X Q C I A R Z D P L) : Type 0 where
+  pub record DecideStops (says : C → InterceptorContext → RetryAction → RetryAction) (quota : QuotaMeans Q P L) (old : Parts T X Q C I A R Z D P L) (view : HookView) (new : Parts T X Q C I A R Z D P L) : Type 0 where
     pub called : CalledOutside old new
     pub stops : DecisionStops quota (verdict_on makes says old (seen_context view)) (seen_context view) old.strategy old.quota new.strategy new.quota
     pub others : new ≡ record old { strategy = new.strategy; outside = new.outside; quota = new.quota }
 
-  abbrev pub DecidesNothing : (C → InterceptorContext → RetryAction → RetryAction) → QuotaMeans Q P L → Parts X Q C I A R Z D P L → HookView → Parts X Q C I A R Z D P L → Type 0
+  abbrev pub DecidesNothing : (C → InterceptorContext → RetryAction → RetryAction) → QuotaMeans Q P L → Parts T X Q C I A R Z D P L → HookView → Parts T X Q C I A R Z D P L → Type 0
   DecidesNothing says quota old view new = (new ≡ old) ⊎ DecideStops says quota old view new
 
   -- the strategy is as it was, and the quota means what it meant
-  pub record InitialStops (quota : QuotaMeans Q P L) (old new : Parts X Q C I A R Z D P L) : Type 0 where
+  pub record InitialStops (quota : QuotaMeans Q P L) (old new : Parts T X Q C I A R Z D P L) : Type 0 where
     pub called : CalledOutside old new
     pub kept : IsKept (quota.meaning old.quota) (quota.meaning new.quota)
     pub others : new ≡ record old { outside = new.outside; quota = new.quota }
 
   -- by the kind of the question; those that want no memory have no case
-  abbrev pub LeftBy : (C → InterceptorContext → RetryAction → RetryAction) → QuotaMeans Q P L → InterceptorMeans I → Parts X Q C I A R Z D P L → Question → Parts X Q C I A R Z D P L → Type 0
+  abbrev pub LeftBy : (C → InterceptorContext → RetryAction → RetryAction) → QuotaMeans Q P L → InterceptorMeans I → Parts T X Q C I A R Z D P L → Question → Parts T X Q C I A R Z D P L → Type 0
   LeftBy says quota chain old (questions.Configure stages.Client settings) new = Ends makes old new
   LeftBy says quota chain old (questions.Hook hook view) new = HookStops says quota chain old hook view new
   LeftBy says quota chain old (questions.Initial settings) new = InitialStops quota old new

@@ -16,7 +16,8 @@ use Rattle.smithy_types.specs.declared.notes.Choice.TheVariants.{Yes, No, NoAfte
 use Rattle.smithy_types.specs.declared.notes.DecideNote.{DecideNote}
 use Rattle.smithy_types.specs.declared.notes.Reason.TheVariants.{Granted}
 use Rattle.smithy_types.specs.declared.notes.RetryAction.TheVariants.{RetryIndicated}
-use Rattle.client_components.specs.Serving.{Means, Served}
+use Rattle.client_components.specs.Meaning.{ClientMeaning}
+use Rattle.client_components.specs.Serving.{Served}
 use Rattle.client_components.specs.declared.parts.Parts.{Parts}
 
 -- which buckets are there, and what each charges for an attempt after a failure of a kind
@@ -60,7 +61,7 @@ Pays prices _ a = Unit {0}
 
 -- in a served list every further attempt is paid for, at the prices of the quota that stands behind the list: a bucket
 -- that is there keeps its costs
-abbrev pub FurtherAttemptsArePaid : {X Q P L C I A R Z D : Type 0} → Means X Q P L C I A R Z D → Type 0
-FurtherAttemptsArePaid {X} {Q} {P} {L} {C} {I} {A} {R} {Z} {D} means =
-    (old new : Parts X Q C I A R Z D P L) (l : List Entry) → Served means old l new
+abbrev pub FurtherAttemptsArePaid : {T X Q C I A R Z D P L : Type 0} → ClientMeaning T X Q C I A R Z D P L → Type 0
+FurtherAttemptsArePaid {T} {X} {Q} {C} {I} {A} {R} {Z} {D} {P} {L} means =
+    (old new : Parts T X Q C I A R Z D P L) (l : List Entry) → Served means old l new
     → AllByRecursion (λ e. Pays (prices_of (means.quota.meaning new.quota)) e.question e.answer) l

@@ -5,34 +5,18 @@ ghost use Rattle.client_components.specs.Lacking.{CalledOutside};
 ghost use Rattle.client_components.specs.Calling.{Abandons, Parks, Reads, Starts, Transmits, Waits};
 ghost use Rattle.client_components.specs.Calling.{is_choose};
 
-use crate::Parts;
-use auth_endpoint::AuthScheme;
-use client_auth::{DeserializeResponse, SerializeRequest};
+use crate::{ClientTypes, Parts};
 use client_call::body::body;
 use client_call::ending::abandon;
 use client_call::park::park;
 use client_call::sleeping::{start, wait};
 use client_call::transmit::transmit;
-use client_retries::TakeOffer;
-use identity_cell::ResolveIdentity;
-use outside::Outside;
-use retry_policy::ClassifyRetry;
-use retry_quota::Quota;
 use run_grammar::{Abandonable, Answer, Role};
 use smithy_context::Settings;
 use smithy_types::{HttpRequest, HttpResponse, OutOfMemory, Shared};
 use std::alloc::Global;
 
-impl<
-    X: Outside + Drop,
-    Q: Quota + Drop,
-    C: ClassifyRetry,
-    I: TakeOffer,
-    A: AuthScheme,
-    R: ResolveIdentity,
-    Z: SerializeRequest,
-    D: DeserializeResponse,
-> Parts<X, Q, C, I, A, R, Z, D> {
+impl<T: ClientTypes> Parts<T> {
     /// Starts the sleep of a role.
     pub fn start(
         &mut self,
@@ -40,8 +24,8 @@ impl<
         role: Role,
         nanos: Option<u64>,
     ) -> Result<Answer, OutOfMemory>
-        ensures ok { IfOk result (λ a. Starts X.makes self.old role nanos a self.new) }
-        ensures err { OnErr result (CalledOutside X.makes self.old self.new
+        ensures ok { IfOk result (λ a. Starts T.Outside.makes self.old role nanos a self.new) }
+        ensures err { OnErr result (CalledOutside T.Outside.makes self.old self.new
             × (self.new ≡ record self.old { sleeps = with_sleep role None self.old.sleeps; outside = self.new.outside })) }
     {
         start(
@@ -56,7 +40,7 @@ impl<
 
     /// Asks whether the sleep of a role is over.
     pub fn wait(&mut self, role: Role) -> Answer
-        ensures { Waits X.makes self.old role result self.new }
+        ensures { Waits T.Outside.makes self.old role result self.new }
     {
         wait(&self.sleeps, &mut self.outside, role)
     }
@@ -68,9 +52,9 @@ impl<
         settings: &Settings,
         request: &Option<Shared<HttpRequest>>,
     ) -> Result<Answer, OutOfMemory>
-        ensures ok { IfOk result (λ a. Transmits X.makes X.sleeps self.old settings.now request.now a
+        ensures ok { IfOk result (λ a. Transmits T.Outside.makes T.Outside.sleeps self.old settings.now request.now a
             self.new) }
-        ensures err { OnErr result (CalledOutside X.makes self.old self.new
+        ensures err { OnErr result (CalledOutside T.Outside.makes self.old self.new
             × (self.new ≡ record self.old { call = self.new.call; outside = self.new.outside })) }
     {
         transmit(alloc, settings, request, &mut self.call, &mut self.outside)
@@ -83,9 +67,9 @@ impl<
         settings: &Settings,
         response: &Option<Shared<HttpResponse>>,
     ) -> Result<Answer, OutOfMemory>
-        ensures ok { IfOk result (λ a. Reads X.makes X.sleeps self.old settings.now response.now a
+        ensures ok { IfOk result (λ a. Reads T.Outside.makes T.Outside.sleeps self.old settings.now response.now a
             self.new) }
-        ensures err { OnErr result (CalledOutside X.makes self.old self.new
+        ensures err { OnErr result (CalledOutside T.Outside.makes self.old self.new
             × (self.new ≡ record self.old { call = self.new.call; outside = self.new.outside })) }
     {
         body(alloc, settings, response, &mut self.call, &mut self.outside)
@@ -93,7 +77,7 @@ impl<
 
     /// Gives up what is pending.
     pub fn abandon(&mut self, abandoned: Abandonable) -> Answer
-        ensures { Abandons X.makes self.old abandoned result self.new }
+        ensures { Abandons T.Outside.makes self.old abandoned result self.new }
     {
         if is_choose(abandoned) {
             self.identities.end_choice(&mut self.outside);
@@ -109,7 +93,7 @@ impl<
 
     /// Lets the outside wait.
     pub fn park(&mut self) -> Answer
-        ensures { Parks X.makes self.old result self.new }
+        ensures { Parks T.Outside.makes self.old result self.new }
     {
         park(&mut self.outside)
     }

@@ -9,7 +9,9 @@ pub mod parts;
 pub mod resting;
 pub mod retrying;
 pub mod serving;
+pub mod types;
 pub mod world;
 
 pub use parts::{Given, Parts};
+pub use types::{ClientMeans, ClientTypes, TypesOf};
 pub use world::RuntimeComponents;

@@ -1,20 +1,16 @@
 //! The parts of a client.
 
-use auth_endpoint::AuthScheme;
-use client_auth::{DeserializeResponse, Identities, SerializeRequest};
+use crate::ClientTypes;
+use client_auth::Identities;
 use client_call::{Call, Sleeps};
-use client_retries::{RetryStrategy, TakeOffer};
-use identity_cell::ResolveIdentity;
-use outside::Outside;
-use retry_policy::ClassifyRetry;
+use client_retries::RetryStrategy;
 use retry_quota::Quota;
 use smithy_context::Layer;
 use smithy_types::{Endpoint, List, Shared, Text};
 
-/// What was given to the builder and never changes. C is a classifier, A an auth scheme, Z the
-/// serializer and D the deserializer.
+/// What was given to the builder and never changes.
 #[derive(Drop)]
-pub struct Given<C: ClassifyRetry, A: AuthScheme, Z: SerializeRequest, D: DeserializeResponse> {
+pub struct Given<T: ClientTypes> {
     /// What the client's step of the configuration sets.
     pub client: Layer,
     /// Whether sleeps are used.
@@ -22,48 +18,38 @@ pub struct Given<C: ClassifyRetry, A: AuthScheme, Z: SerializeRequest, D: Deseri
     /// Whether the clock is used.
     pub time_source: bool,
     /// The retry classifiers in the order of their priority.
-    pub classifiers: Vec<C>,
+    pub classifiers: Vec<T::Classifier>,
     /// The auth options by their ids.
     pub options: List<Text>,
     /// The auth schemes.
-    pub schemes: Vec<A>,
+    pub schemes: Vec<T::Scheme>,
     /// Where requests go.
     pub endpoint: Shared<Endpoint>,
     /// What makes requests of inputs.
-    pub serializer: Z,
+    pub serializer: T::Serializer,
     /// What makes outcomes of responses.
-    pub deserializer: D,
+    pub deserializer: T::Deserializer,
     /// Whether the deserializer is asked by the response's head first.
     pub may_stream: bool,
 }
 
-/// All that a client answers from. X is its outside, Q its quota, I an interceptor and R a resolver
-/// of identities.
+/// All that a client answers from.
 #[derive(Drop)]
-pub struct Parts<
-    X: Outside + Drop,
-    Q: Quota + Drop,
-    C: ClassifyRetry,
-    I: TakeOffer,
-    A: AuthScheme,
-    R: ResolveIdentity,
-    Z: SerializeRequest,
-    D: DeserializeResponse,
-> {
+pub struct Parts<T: ClientTypes> {
     /// What never changes.
-    pub given: Given<C, A, Z, D>,
+    pub given: Given<T>,
     /// The open sleeps.
     pub sleeps: Sleeps,
     /// The call at the connector.
     pub call: Call,
     /// The retry strategy with the permit that it holds.
-    pub strategy: RetryStrategy<Q::Permit>,
+    pub strategy: RetryStrategy<<T::Quota as Quota>::Permit>,
     /// The interceptors, in their order.
-    pub interceptors: Vec<I>,
+    pub interceptors: Vec<T::Interceptor>,
     /// Where identities come from, their cache, and what is open of a choice.
-    pub identities: Identities<R>,
+    pub identities: Identities<T::Resolver>,
     /// What lies outside of the client.
-    pub outside: X,
+    pub outside: T::Outside,
     /// From what retries are paid.
-    pub quota: Q,
+    pub quota: T::Quota,
 }

@@ -2,46 +2,30 @@
 ghost use Rattle.std.specs.Prelude.{◌≡◌, IfOk, MatchBool, None, OnErr};
 ghost use Rattle.client_components.specs.Lacking.{DecidesNothing, HookStops, InitialStops};
 ghost use Rattle.client_components.specs.Resting.{Ends};
-ghost use Rattle.retry_quota.specs.Calls.{limiters_by};
 ghost use Rattle.client_components.specs.Retrying.{Begins, Configures, Decides, RunsHook, decided_view};
 ghost use Rattle.client_components.specs.Retrying.{is_first, sleeps_after, sleeps_ended};
 ghost use Rattle.retry_policy.specs.Verdict.{verdict_of};
 ghost use Rattle.client_retries.specs.Hooking.{seen_context};
 ghost use Rattle.smithy_types.specs.Chain.{Chained};
 
-use crate::Parts;
-use auth_endpoint::AuthScheme;
-use client_auth::{DeserializeResponse, SerializeRequest};
+use crate::{ClientMeans, ClientTypes, Parts};
 use client_call::Sleeps;
 use client_call::sleeping::{end_all_sleeps, end_role};
-use client_retries::TakeOffer;
 use client_retries::configure::{CacheNeeds, configure};
 use client_retries::decide::{context_of, decide};
 use client_retries::hooking::hook as run_hook;
 use client_retries::initial::initial;
-use identity_cell::ResolveIdentity;
 use outside::Outside;
-use retry_policy::ClassifyRetry;
-use retry_quota::Quota;
 use run_grammar::{Answer, ConfigureStage, Role};
 use smithy_context::{HookView, Settings};
 use smithy_types::{Hook, HttpRequest, HttpResponse, OutOfMemory, Outcome, Shared};
 use std::alloc::Global;
 
-impl<
-    X: Outside + Drop,
-    Q: Quota + Drop,
-    C: ClassifyRetry,
-    I: TakeOffer,
-    A: AuthScheme,
-    R: ResolveIdentity,
-    Z: SerializeRequest,
-    D: DeserializeResponse,
-> Parts<X, Q, C, I, A, R, Z, D> {
+impl<T: ClientTypes> Parts<T> {
     /// A step of the configuration. Before the first, what an earlier run left open is ended.
     pub fn configure(&mut self, stage: ConfigureStage) -> Result<Answer, OutOfMemory>
-        ensures ok { IfOk result (λ a. Configures X.makes self.old stage a self.new) }
-        ensures err { OnErr result (MatchBool (is_first stage) (Ends X.makes self.old self.new)
+        ensures ok { IfOk result (λ a. Configures T.Outside.makes self.old stage a self.new) }
+        ensures err { OnErr result (MatchBool (is_first stage) (Ends T.Outside.makes self.old self.new)
             (self.new ≡ self.old)) }
     {
         if is_first(stage) {
@@ -62,36 +46,12 @@ impl<
         hook: Hook,
         view: &HookView,
     ) -> Result<Answer, OutOfMemory>
-        ensures ok { IfOk result (λ a. RunsHook X.makes C.says
-            (record {
-              meaning = Q.meaning;
-              permit_bucket = Q.permit_bucket;
-              permit_amount = Q.permit_amount;
-              limiters = limiters_by Q.Limiter.at
-                  Q.Limiter.after_acquire Q.Limiter.reply_to Q.Limiter.after_update;
-            })
-            (record {
-              names = I.names;
-              hooks = I.hooks;
-              runs = I.runs;
-              with_bucket = I.with_bucket;
-              with_verdict = I.with_verdict;
-            }) self.old hook view.now a self.new) }
-        ensures err { OnErr result (HookStops X.makes C.says
-            (record {
-              meaning = Q.meaning;
-              permit_bucket = Q.permit_bucket;
-              permit_amount = Q.permit_amount;
-              limiters = limiters_by Q.Limiter.at
-                  Q.Limiter.after_acquire Q.Limiter.reply_to Q.Limiter.after_update;
-            })
-            (record {
-              names = I.names;
-              hooks = I.hooks;
-              runs = I.runs;
-              with_bucket = I.with_bucket;
-              with_verdict = I.with_verdict;
-            }) self.old hook view.now self.new) }
+        ensures ok { IfOk result (λ a. RunsHook T.Outside.makes T.Classifier.says
+            ⟦<T as ClientMeans>⟧.means.quota
+            ⟦<T as ClientMeans>⟧.means.chain self.old hook view.now a self.new) }
+        ensures err { OnErr result (HookStops T.Outside.makes T.Classifier.says
+            ⟦<T as ClientMeans>⟧.means.quota
+            ⟦<T as ClientMeans>⟧.means.chain self.old hook view.now self.new) }
     {
         end_sleeps(&mut self.sleeps, &mut self.outside, hook);
         run_hook(
@@ -107,22 +67,10 @@ impl<
 
     /// Whether an attempt is begun.
     pub fn initial(&mut self, alloc: Global, settings: &Settings) -> Result<Answer, OutOfMemory>
-        ensures ok { IfOk result (λ a. Begins X.makes
-            (record {
-              meaning = Q.meaning;
-              permit_bucket = Q.permit_bucket;
-              permit_amount = Q.permit_amount;
-              limiters = limiters_by Q.Limiter.at
-                  Q.Limiter.after_acquire Q.Limiter.reply_to Q.Limiter.after_update;
-            }) self.old
+        ensures ok { IfOk result (λ a. Begins T.Outside.makes
+            ⟦<T as ClientMeans>⟧.means.quota self.old
             settings.now a self.new) }
-        ensures err { OnErr result (InitialStops X.makes (record {
-          meaning = Q.meaning;
-          permit_bucket = Q.permit_bucket;
-          permit_amount = Q.permit_amount;
-          limiters = limiters_by Q.Limiter.at
-              Q.Limiter.after_acquire Q.Limiter.reply_to Q.Limiter.after_update;
-        }) self.old self.new) }
+        ensures err { OnErr result (InitialStops T.Outside.makes ⟦<T as ClientMeans>⟧.means.quota self.old self.new) }
     {
         initial(
             alloc,
@@ -144,23 +92,11 @@ impl<
         outcome: &Option<Shared<Outcome>>,
         attempt: u64,
     ) -> Result<Answer, OutOfMemory>
-        ensures ok { IfOk result (λ a. Decides X.makes C.says
-            (record {
-              meaning = Q.meaning;
-              permit_bucket = Q.permit_bucket;
-              permit_amount = Q.permit_amount;
-              limiters = limiters_by Q.Limiter.at
-                  Q.Limiter.after_acquire Q.Limiter.reply_to Q.Limiter.after_update;
-            }) self.old
+        ensures ok { IfOk result (λ a. Decides T.Outside.makes T.Classifier.says
+            ⟦<T as ClientMeans>⟧.means.quota self.old
             (decided_view settings.now request.now response.now outcome.now attempt) a self.new) }
-        ensures err { OnErr result (DecidesNothing X.makes C.says
-            (record {
-              meaning = Q.meaning;
-              permit_bucket = Q.permit_bucket;
-              permit_amount = Q.permit_amount;
-              limiters = limiters_by Q.Limiter.at
-                  Q.Limiter.after_acquire Q.Limiter.reply_to Q.Limiter.after_update;
-            }) self.old
+        ensures err { OnErr result (DecidesNothing T.Outside.makes T.Classifier.says
+            ⟦<T as ClientMeans>⟧.means.quota self.old
             (decided_view settings.now request.now response.now outcome.now attempt) self.new) }
     {
         let context = context_of(decided_view(settings, request, response, outcome, attempt)?);

@@ -1,78 +1,25 @@
 //! A question is answered by the part of its kind.
 ghost use Rattle.std.specs.Prelude.{IfOk, OnErr};
 ghost use Rattle.client_components.specs.Lacking.{LeftBy};
-ghost use Rattle.retry_quota.specs.Calls.{limiters_by};
 ghost use Rattle.client_components.specs.Serving.{Answers};
 
-use crate::Parts;
-use auth_endpoint::AuthScheme;
+use crate::{ClientMeans, ClientTypes, Parts};
 use client_auth::apply::{apply, resolve_endpoint};
 use client_auth::deserialize::{deserialize, stream};
 use client_auth::serialize::serialize;
 use client_auth::sign::sign;
-use client_auth::{DeserializeResponse, SerializeRequest};
 use client_call::load::load;
-use client_retries::TakeOffer;
-use identity_cell::ResolveIdentity;
-use outside::Outside;
-use retry_policy::ClassifyRetry;
-use retry_quota::Quota;
 use run_grammar::{Answer, Question};
 use smithy_types::OutOfMemory;
 use std::alloc::Global;
 
-impl<
-    X: Outside + Drop,
-    Q: Quota + Drop,
-    C: ClassifyRetry,
-    I: TakeOffer,
-    A: AuthScheme,
-    R: ResolveIdentity,
-    Z: SerializeRequest,
-    D: DeserializeResponse,
-> Parts<X, Q, C, I, A, R, Z, D> {
+impl<T: ClientTypes> Parts<T> {
     /// Answers one question.
     pub fn answer(&mut self, alloc: Global, question: &Question) -> Result<Answer, OutOfMemory>
-        ensures ok { IfOk result (λ a. Answers (record {
-          makes = X.makes;
-          sleeps = X.sleeps;
-          quota = record {
-            meaning = Q.meaning;
-            permit_bucket = Q.permit_bucket;
-            permit_amount = Q.permit_amount;
-            limiters = limiters_by Q.Limiter.at
-                Q.Limiter.after_acquire Q.Limiter.reply_to Q.Limiter.after_update;
-          };
-          says = C.says;
-          chain = record {
-            names = I.names;
-            hooks = I.hooks;
-            runs = I.runs;
-            with_bucket = I.with_bucket;
-            with_verdict = I.with_verdict;
-          };
-          names = A.names;
-          signs = A.signs;
-          polls = R.polls;
-          serializes = Z.serializes;
-          streams = D.streams;
-          deserializes = D.deserializes;
-        }) self.old question.now a self.new) }
-        ensures err { OnErr result (LeftBy X.makes C.says
-            (record {
-              meaning = Q.meaning;
-              permit_bucket = Q.permit_bucket;
-              permit_amount = Q.permit_amount;
-              limiters = limiters_by Q.Limiter.at
-                  Q.Limiter.after_acquire Q.Limiter.reply_to Q.Limiter.after_update;
-            })
-            (record {
-              names = I.names;
-              hooks = I.hooks;
-              runs = I.runs;
-              with_bucket = I.with_bucket;
-              with_verdict = I.with_verdict;
-            }) self.old question.now self.new) }
+        ensures ok { IfOk result (λ a. Answers ⟦<T as ClientMeans>⟧.means self.old question.now a self.new) }
+        ensures err { OnErr result (LeftBy T.Outside.makes T.Classifier.says
+            ⟦<T as ClientMeans>⟧.means.quota
+            ⟦<T as ClientMeans>⟧.means.chain self.old question.now self.new) }
     {
         match question {
             Question::Configure { stage, .. } => self.configure(*stage),

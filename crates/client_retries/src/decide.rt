@@ -5,11 +5,10 @@ ghost use Rattle.client_retries.specs.Deciding.{StopsDeciding, paused, sums_in};
 ghost use Rattle.client_retries.specs.Hooking.{seen_context};
 ghost use Rattle.retry_policy.specs.Standing.{standing_bucket};
 ghost use Rattle.retry_policy.specs.Verdict.{verdict_of};
-ghost use Rattle.retry_quota.specs.Calls.{limiters_by};
 ghost use Rattle.smithy_types.specs.Chain.{Chained};
 
-use crate::RetryStrategy;
 use crate::reading::standing_bucket;
+use crate::{QuotaMeaning, RetryStrategy};
 use outside::{Outside, present};
 use retry_policy::classify::run_each as run_classifiers;
 use retry_policy::{ClassifyRetry, Decision, StandardRetryStrategy, StrategyError};
@@ -35,23 +34,11 @@ pub fn decide<X: Outside, Q: Quota, C: ClassifyRetry>(
     context: &InterceptorContext,
 ) -> Result<Answer, OutOfMemory>
     ensures ok { IfOk result (λ a. (calls : _) × Chained X.makes outside.old calls outside.new
-        × IsDecided (record {
-          meaning = Q.meaning;
-          permit_bucket = Q.permit_bucket;
-          permit_amount = Q.permit_amount;
-          limiters = limiters_by Q.Limiter.at
-              Q.Limiter.after_acquire Q.Limiter.reply_to Q.Limiter.after_update;
-        })
+        × IsDecided ⟦<Q as QuotaMeaning>⟧.means
         (verdict_of C.says context.now classifiers.now RetryAction.NoActionIndicated)
         time_source context.now strategy.old quota.old a strategy.new calls quota.new) }
     ensures outside { OnErr result ((calls : _) × Chained X.makes outside.old calls outside.new) }
-    ensures err { OnErr result (DecisionStops (record {
-      meaning = Q.meaning;
-      permit_bucket = Q.permit_bucket;
-      permit_amount = Q.permit_amount;
-      limiters = limiters_by Q.Limiter.at
-          Q.Limiter.after_acquire Q.Limiter.reply_to Q.Limiter.after_update;
-    })
+    ensures err { OnErr result (DecisionStops ⟦<Q as QuotaMeaning>⟧.means
         (verdict_of C.says context.now classifiers.now RetryAction.NoActionIndicated)
         context.now strategy.old quota.old strategy.new quota.new) }
 {
@@ -95,23 +82,11 @@ fn decide_standard<X: Outside, Q: Quota, C: ClassifyRetry>(
     context: &InterceptorContext,
 ) -> Result<Answer, OutOfMemory>
     ensures ok { IfOk result (λ a. (calls : _) × Chained X.makes outside.old calls outside.new
-        × StandardDecides (record {
-          meaning = Q.meaning;
-          permit_bucket = Q.permit_bucket;
-          permit_amount = Q.permit_amount;
-          limiters = limiters_by Q.Limiter.at
-              Q.Limiter.after_acquire Q.Limiter.reply_to Q.Limiter.after_update;
-        })
+        × StandardDecides ⟦<Q as QuotaMeaning>⟧.means
         (verdict_of C.says context.now classifiers.now RetryAction.NoActionIndicated)
         time_source context.now strategy.old quota.old a strategy.new calls quota.new) }
     ensures outside { OnErr result ((calls : _) × Chained X.makes outside.old calls outside.new) }
-    ensures err { OnErr result (StopsDeciding (record {
-      meaning = Q.meaning;
-      permit_bucket = Q.permit_bucket;
-      permit_amount = Q.permit_amount;
-      limiters = limiters_by Q.Limiter.at
-          Q.Limiter.after_acquire Q.Limiter.reply_to Q.Limiter.after_update;
-    })
+    ensures err { OnErr result (StopsDeciding ⟦<Q as QuotaMeaning>⟧.means
         (verdict_of C.says context.now classifiers.now RetryAction.NoActionIndicated)
         context.now strategy.old quota.old strategy.new quota.new) }
 {

@@ -13,6 +13,7 @@ ghost use Rattle.smithy_types.specs.Chain.{Chained};
 use crate::decide::context_of;
 use crate::offers::{TakeOffer, offer_bucket_to_all, offer_verdict_to_all};
 use crate::reading::{poisoned_in, standing_partition, standing_spec};
+use crate::{InterceptorMeaning, QuotaMeaning};
 use outside::Outside;
 use retry_policy::ClassifyRetry;
 use retry_policy::classify::run_each as run_classifiers;
@@ -39,37 +40,13 @@ pub fn hook<X: Outside, Q: Quota, C: ClassifyRetry, I: TakeOffer>(
     view: &HookView,
 ) -> Result<Answer, OutOfMemory>
     ensures ok { IfOk result (λ a. (calls : _) × Chained X.makes outside.old calls outside.new
-        × Hooks (record {
-          meaning = Q.meaning;
-          permit_bucket = Q.permit_bucket;
-          permit_amount = Q.permit_amount;
-          limiters = limiters_by Q.Limiter.at
-              Q.Limiter.after_acquire Q.Limiter.reply_to Q.Limiter.after_update;
-        })
-        (record {
-          names = I.names;
-          hooks = I.hooks;
-          runs = I.runs;
-          with_bucket = I.with_bucket;
-          with_verdict = I.with_verdict;
-        })
+        × Hooks ⟦<Q as QuotaMeaning>⟧.means
+        ⟦<I as InterceptorMeaning>⟧.means
         (verdict_of C.says (seen_context view.now) classifiers.now RetryAction.NoActionIndicated)
         hook view.now interceptors.old quota.old a interceptors.new calls quota.new) }
     ensures outside { OnErr result ((calls : _) × Chained X.makes outside.old calls outside.new) }
-    ensures err { OnErr result (Stops (record {
-      meaning = Q.meaning;
-      permit_bucket = Q.permit_bucket;
-      permit_amount = Q.permit_amount;
-      limiters = limiters_by Q.Limiter.at
-          Q.Limiter.after_acquire Q.Limiter.reply_to Q.Limiter.after_update;
-    })
-        (record {
-          names = I.names;
-          hooks = I.hooks;
-          runs = I.runs;
-          with_bucket = I.with_bucket;
-          with_verdict = I.with_verdict;
-        })
+    ensures err { OnErr result (Stops ⟦<Q as QuotaMeaning>⟧.means
+        ⟦<I as InterceptorMeaning>⟧.means
         (verdict_of C.says (seen_context view.now) classifiers.now RetryAction.NoActionIndicated)
         hook view.now interceptors.old quota.old interceptors.new quota.new) }
 {
@@ -111,20 +88,8 @@ fn offer<Q: Quota, C: ClassifyRetry, I: TakeOffer>(
     view: &HookView,
 ) -> Result<(), OutOfMemory>
     ensures ok { OnOk result (Offers
-        (record {
-          meaning = Q.meaning;
-          permit_bucket = Q.permit_bucket;
-          permit_amount = Q.permit_amount;
-          limiters = limiters_by Q.Limiter.at Q.Limiter.after_acquire
-              Q.Limiter.reply_to Q.Limiter.after_update;
-        })
-        (record {
-          names = I.names;
-          hooks = I.hooks;
-          runs = I.runs;
-          with_bucket = I.with_bucket;
-          with_verdict = I.with_verdict;
-        })
+        ⟦<Q as QuotaMeaning>⟧.means
+        ⟦<I as InterceptorMeaning>⟧.means
         (verdict_of C.says (seen_context view.now) classifiers.now RetryAction.NoActionIndicated)
         hook view.now interceptors.old quota.old interceptors.new quota.new) }
     ensures err { OnErr result ((interceptors.new ≡ interceptors.old)
@@ -152,13 +117,7 @@ fn offer_bucket<Q: Quota, I: TakeOffer>(
         (finding_bucket (standing_partition view.now.settings) (standing_spec view.now.settings)
         number) (Q.meaning quota.new)
         × (interceptors.new ≡ offered_bucket
-        (record {
-          names = I.names;
-          hooks = I.hooks;
-          runs = I.runs;
-          with_bucket = I.with_bucket;
-          with_verdict = I.with_verdict;
-        })
+        ⟦<I as InterceptorMeaning>⟧.means
         (standing_partition view.now.settings) number interceptors.old)) }
     ensures err { OnErr result ((interceptors.new ≡ interceptors.old)
         × IsKept (Q.meaning quota.old) (Q.meaning quota.new)) }

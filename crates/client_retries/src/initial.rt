@@ -1,11 +1,10 @@
 //! Initial.
 ghost use Rattle.std.specs.Prelude.{◌≡◌, IfOk, OnErr};
 ghost use Rattle.client_retries.specs.Initially.{Begun, answer_of};
-ghost use Rattle.retry_quota.specs.Calls.{limiters_by};
 ghost use Rattle.retry_quota.specs.Meaning.{IsKept};
 ghost use Rattle.smithy_types.specs.Chain.{Chained};
 
-use crate::RetryStrategy;
+use crate::{QuotaMeaning, RetryStrategy};
 use outside::{Outside, present};
 use retry_policy::{Initial, StrategyError};
 use retry_quota::Quota;
@@ -25,13 +24,7 @@ pub fn initial<X: Outside, Q: Quota>(
     settings: &Settings,
 ) -> Result<Answer, OutOfMemory>
     ensures ok { IfOk result (λ a. (calls : _) × Chained X.makes outside.old calls outside.new
-        × Begun (record {
-          meaning = Q.meaning;
-          permit_bucket = Q.permit_bucket;
-          permit_amount = Q.permit_amount;
-          limiters = limiters_by Q.Limiter.at
-              Q.Limiter.after_acquire Q.Limiter.reply_to Q.Limiter.after_update;
-        })
+        × Begun ⟦<Q as QuotaMeaning>⟧.means
         time_source settings.now strategy.old quota.old a strategy.new calls quota.new) }
     ensures outside { OnErr result ((calls : _) × Chained X.makes outside.old calls outside.new) }
     ensures quota { OnErr result (IsKept (Q.meaning quota.old) (Q.meaning quota.new)) }

@@ -6,9 +6,11 @@ pub mod configure;
 pub mod decide;
 pub mod hooking;
 pub mod initial;
+pub mod meaning;
 pub mod offers;
 mod reading;
 pub mod strategy;
 
+pub use meaning::{InterceptorMeaning, QuotaMeaning};
 pub use offers::TakeOffer;
 pub use strategy::RetryStrategy;

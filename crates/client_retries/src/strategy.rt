@@ -1,7 +1,7 @@
 //! The retry strategy of a client.
 ghost use Rattle.client_retries.specs.Strategies.{Closes};
-ghost use Rattle.retry_quota.specs.Calls.{limiters_by};
 
+use crate::QuotaMeaning;
 use retry_policy::{NeverRetryStrategy, StandardRetryStrategy};
 use retry_quota::Quota;
 use std::mem;
@@ -18,13 +18,7 @@ pub enum RetryStrategy<P: Drop> {
 impl<P: Drop> RetryStrategy<P> {
     /// Gives a held permit back to its bucket. The strategy may be used on, and holds none.
     pub fn close<Q: Quota<Permit = P>>(&mut self, quota: &mut Q)
-        ensures { Closes (record {
-          meaning = Q.meaning;
-          permit_bucket = Q.permit_bucket;
-          permit_amount = Q.permit_amount;
-          limiters = limiters_by Q.Limiter.at
-              Q.Limiter.after_acquire Q.Limiter.reply_to Q.Limiter.after_update;
-        }) self.old quota.old
+        ensures { Closes ⟦<Q as QuotaMeaning>⟧.means self.old quota.old
             self.new quota.new }
     {
         match self {

@@ -7,6 +7,9 @@ use Rattle.client_scripted.specs.declared.service.deserializer.ServiceDeserializ
 use Rattle.client_scripted.specs.declared.service.error.ServiceError.{ServiceError}
 use Rattle.client_scripted.specs.declared.service.scheme.ServiceScheme.{ServiceScheme}
 use Rattle.client_scripted.specs.declared.service.serializer.ServiceSerializer.{ServiceSerializer}
+use Rattle.client_components.specs.Meaning.{ClientMeaning}
+use Rattle.client_components.specs.declared.parts.Parts.{Parts}
+use Rattle.client_components.specs.declared.types.TypesOf.{TypesOf}
 use Rattle.client_components.specs.declared.world.RuntimeComponents.{RuntimeComponents}
 use Rattle.identity_cell.specs.declared.no_auth.NoAuthIdentityResolver.{NoAuthIdentityResolver}
 use Rattle.client_builder.specs.Built.{IsBuiltFrom}
@@ -30,13 +33,28 @@ use Rattle.client_scripted.specs.declared.auth.AuthParts.{AuthParts}
 use Rattle.client_scripted.specs.declared.builder.ClientNames.{ClientNames}
 use Rattle.client_scripted.specs.declared.client.ScriptedClient.{ScriptedClient}
 
--- the builder of a client, where V and W are what boxed classifiers and interceptors would be; and the client, of
--- classifiers C and interceptors I
+-- the builder of a client, where V and W are what boxed classifiers and interceptors would be
 abbrev pub ServiceBuilder : (V W : Type 0) → (V → Type 0) → (W → Type 0) → Type 0
 ServiceBuilder V W v w = OperationBuilder Payload Payload ServiceError ServiceScheme NoAuthIdentityResolver ServiceSerializer ServiceDeserializer V W v w
 
+-- the types of a client of the service, of an outside X, a quota Q, classifiers C and interceptors I
+abbrev pub ServiceTypes : (X Q C I : Type 0) → Type 0
+ServiceTypes X Q C I = TypesOf X Q C I (Scheme ServiceScheme) (IdentityResolver NoAuthIdentityResolver) ServiceSerializer ServiceDeserializer
+
+-- what they mean, where P are the quota's permits and L its limiters
+abbrev pub ServiceMeaning : (X Q C I P L : Type 0) → Type 1
+ServiceMeaning X Q C I P L = ClientMeaning (ServiceTypes X Q C I) X Q C I (Scheme ServiceScheme) (IdentityResolver NoAuthIdentityResolver) ServiceSerializer ServiceDeserializer P L
+
+-- the parts of such a client, and the client
+abbrev pub ServiceParts : (X Q C I P L : Type 0) → Type 0
+ServiceParts X Q C I P L = Parts (ServiceTypes X Q C I) X Q C I (Scheme ServiceScheme) (IdentityResolver NoAuthIdentityResolver) ServiceSerializer ServiceDeserializer P L
+
+abbrev pub ServiceClient : (X Q C I P L : Type 0) → Type 0
+ServiceClient X Q C I P L = RuntimeComponents (ServiceTypes X Q C I) X Q C I (Scheme ServiceScheme) (IdentityResolver NoAuthIdentityResolver) ServiceSerializer ServiceDeserializer P L
+
+-- over the outside and the quota of a script
 abbrev pub ServiceWorld : (C I : Type 0) → Type 0
-ServiceWorld C I = RuntimeComponents ScriptedOutside (Registers Pace) C I (Scheme ServiceScheme) (IdentityResolver NoAuthIdentityResolver) ServiceSerializer ServiceDeserializer Permit Pace
+ServiceWorld C I = ServiceClient ScriptedOutside (Registers Pace) C I Permit Pace
 
 -- the operation has the names of what the client calls
 pub record IsOperationOf (target : ClientTarget) (operation : Operation Payload Payload Payload) : Type 0 where

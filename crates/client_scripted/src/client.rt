@@ -15,7 +15,7 @@ use crate::service::{ServiceDeserializer, ServiceError, ServiceScheme, ServiceSe
 use client_builder::{
     BuildRefusal, IdentityResolver, OperationBuilder, OwnInterceptor, Plugin, Scheme,
 };
-use client_components::RuntimeComponents;
+use client_components::{RuntimeComponents, TypesOf};
 use client_retries::TakeOffer;
 use identity_cell::NoAuthIdentityResolver;
 use json_print::world::PayloadOperation;
@@ -31,10 +31,11 @@ use std::alloc::Global;
 /// The buckets and the limiters of a script's clients.
 pub type ClientQuota = Registry<ClientRateLimiter>;
 
-/// The client of a script's service. C is a classifier and I an interceptor.
-pub type ServiceWorld<C, I> = RuntimeComponents<
-    ScriptedOutside,
-    ClientQuota,
+/// The types of a client of the service. X is its outside, Q its quota, C a classifier and I an
+/// interceptor.
+pub type ServiceTypes<X, Q, C, I> = TypesOf<
+    X,
+    Q,
     C,
     I,
     Scheme<ServiceScheme>,
@@ -42,6 +43,9 @@ pub type ServiceWorld<C, I> = RuntimeComponents<
     ServiceSerializer,
     ServiceDeserializer,
 >;
+
+/// The client of a script's service.
+pub type ServiceWorld<C, I> = RuntimeComponents<ServiceTypes<ScriptedOutside, ClientQuota, C, I>>;
 
 /// The client of a script's service as its builder builds it.
 pub type BuiltWorld = ServiceWorld<Classifier<ServiceError>, Slot<OwnInterceptor>>;

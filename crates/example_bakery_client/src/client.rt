@@ -13,15 +13,14 @@ ghost use Rattle.orchestrate.specs.Growth.{GrewByAtMost};
 ghost use Rattle.orchestrate.specs.Handing.{HadMemory};
 ghost use Rattle.client_retries.specs.Strategies.{Closes};
 ghost use Rattle.client_retries.specs.declared.strategy.RetryStrategy.{RetryStrategy};
-ghost use Rattle.retry_quota.specs.Calls.{limiters_by};
 ghost use Rattle.run_grammar.specs.declared.answer.Entry.{Entry};
 ghost use Rattle.smithy_types.specs.Chain.{Chained};
 ghost use Rattle.smithy_types.specs.Config.{standard_retry};
 
 use client_builder::{IdentityResolver, OperationBuilder, Scheme};
-use client_components::RuntimeComponents;
 use client_components::laws::further_attempts_are_paid;
-use client_retries::TakeOffer;
+use client_components::{RuntimeComponents, TypesOf};
+use client_retries::{QuotaMeaning, TakeOffer};
 use example_bakery_service::{BakeryDeserializer, BakeryError, BakerySerializer};
 use http_schemes::{BearerAuthScheme, HttpIdentityResolver};
 use laws_client::retries::{decisions_tell_the_bucket, settings_bound_attempts};
@@ -43,8 +42,8 @@ pub type BakeryBuilder<In, Out> = OperationBuilder<
     BakeryDeserializer,
 >;
 
-/// The client of an operation of the service.
-pub type BakeryClient<X, Q, C, I> = RuntimeComponents<
+/// The types of a client of the service.
+pub type BakeryTypes<X, Q, C, I> = TypesOf<
     X,
     Q,
     C,
@@ -54,6 +53,9 @@ pub type BakeryClient<X, Q, C, I> = RuntimeComponents<
     BakerySerializer,
     BakeryDeserializer,
 >;
+
+/// The client of an operation of the service.
+pub type BakeryClient<X, Q, C, I> = RuntimeComponents<BakeryTypes<X, Q, C, I>>;
 
 /// An operation of the service.
 pub type BakeryOperation<In, Out> = Operation<In, Out, BakeryError>;
@@ -96,26 +98,8 @@ pub fn invoke<
         × TellsBuckets (Q.meaning client.new.parts.quota) l }
 {
     settings_bound_attempts();
-    further_attempts_are_paid::<
-        X,
-        Q,
-        C,
-        I,
-        Scheme<BearerAuthScheme>,
-        IdentityResolver<HttpIdentityResolver>,
-        BakerySerializer,
-        BakeryDeserializer,
-    >();
-    decisions_tell_the_bucket::<
-        X,
-        Q,
-        C,
-        I,
-        Scheme<BearerAuthScheme>,
-        IdentityResolver<HttpIdentityResolver>,
-        BakerySerializer,
-        BakeryDeserializer,
-    >();
+    further_attempts_are_paid::<BakeryTypes<X, Q, C, I>>();
+    decisions_tell_the_bucket::<BakeryTypes<X, Q, C, I>>();
     operation.invoke(alloc, client, input, fuel)
 }
 
@@ -129,13 +113,7 @@ pub fn taken_apart<X: Outside + Drop, Q: Quota + Drop, C: ClassifyRetry, I: Take
         (ending_choice client.parts.identities
         ++ ending_calls client.parts.sleeps client.parts.call)
         result.0 }
-    ensures quota { (emptied : RetryStrategy Q.Permit) × Closes (record {
-      meaning = Q.meaning;
-      permit_bucket = Q.permit_bucket;
-      permit_amount = Q.permit_amount;
-      limiters = limiters_by Q.Limiter.at Q.Limiter.after_acquire Q.Limiter.reply_to
-          Q.Limiter.after_update;
-    }) client.parts.strategy client.parts.quota emptied result.1 }
+    ensures quota { (emptied : RetryStrategy Q.Permit) × Closes ⟦<Q as QuotaMeaning>⟧.means client.parts.strategy client.parts.quota emptied result.1 }
 {
     let mut client = client;
     client.parts.end_open();

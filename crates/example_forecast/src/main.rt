@@ -16,10 +16,9 @@ use crate::forecasts::{
 };
 use anyhow::Result;
 use smithy_runtime::{
-    Classifier, ClassifyRetry, ClientRateLimiter, IdentityResolver, InvokeError,
-    ModeledAsRetryableClassifier, NoAuthIdentityResolver, NoAuthScheme, Operation,
-    OperationBuilder, Outside, Quota, Registry, RetryConfig, Row, RuntimeComponents, Scheme,
-    TakeOffer, Text, TimeoutConfig, Timers, added, refusal_of, service,
+    Classifier, ClientRateLimiter, ClientTypes, InvokeError, ModeledAsRetryableClassifier,
+    NoAuthIdentityResolver, NoAuthScheme, Operation, OperationBuilder, Outside, Quota, Registry,
+    RetryConfig, Row, RuntimeComponents, Text, TimeoutConfig, Timers, added, refusal_of, service,
 };
 use std::alloc::Global;
 
@@ -51,19 +50,6 @@ type ForecastBuilder = OperationBuilder<
     ForecastError,
     NoAuthScheme,
     NoAuthIdentityResolver,
-    ForecastSerializer,
-    ForecastDeserializer,
->;
-
-/// Its client. X is what lies outside of it, Q the quota that retries are paid from, C a classifier
-/// of retries and I an interceptor.
-type ForecastClient<X, Q, C, I> = RuntimeComponents<
-    X,
-    Q,
-    C,
-    I,
-    Scheme<NoAuthScheme>,
-    IdentityResolver<NoAuthIdentityResolver>,
     ForecastSerializer,
     ForecastDeserializer,
 >;
@@ -116,20 +102,20 @@ fn retry() -> RetryConfig {
 }
 
 // Asks for the forecast with this client.
-fn ask<X: Outside + Drop, Q: Quota + Drop, C: ClassifyRetry, I: TakeOffer>(
+fn ask<T: ClientTypes>(
     rt: &HostRuntime,
     operation: GetForecast,
-    client: ForecastClient<X, Q, C, I>,
+    client: RuntimeComponents<T>,
 ) -> Result<()> {
     let mut client = client;
     print_forecast(rt, &operation, &mut client)
 }
 
 // Asks for the forecast, and prints what came and what it took.
-fn print_forecast<X: Outside + Drop, Q: Quota + Drop, C: ClassifyRetry, I: TakeOffer>(
+fn print_forecast<T: ClientTypes>(
     rt: &HostRuntime,
     operation: &GetForecast,
-    client: &mut ForecastClient<X, Q, C, I>,
+    client: &mut RuntimeComponents<T>,
 ) -> Result<()> {
     let sky = forecast(rt.alloc(), operation, client)?;
     println!(rt; "{STATION}: {}", word(sky))?;
@@ -140,10 +126,10 @@ fn print_forecast<X: Outside + Drop, Q: Quota + Drop, C: ClassifyRetry, I: TakeO
 }
 
 // The sky of the forecast.
-fn forecast<X: Outside + Drop, Q: Quota + Drop, C: ClassifyRetry, I: TakeOffer>(
+fn forecast<T: ClientTypes>(
     alloc: Global,
     operation: &GetForecast,
-    client: &mut ForecastClient<X, Q, C, I>,
+    client: &mut RuntimeComponents<T>,
 ) -> Result<Sky> {
     let input = GetForecastInput {
         station: Text::from_static(STATION),
@@ -154,10 +140,10 @@ fn forecast<X: Outside + Drop, Q: Quota + Drop, C: ClassifyRetry, I: TakeOffer>(
 
 // Invokes the operation. At most `fuel` questions are asked. An output or an `SdkError` is the
 // outcome of one whole run of the input, and each other answer has its cause.
-fn invoke<X: Outside + Drop, Q: Quota + Drop, C: ClassifyRetry, I: TakeOffer>(
+fn invoke<T: ClientTypes>(
     alloc: Global,
     operation: &GetForecast,
-    client: &mut ForecastClient<X, Q, C, I>,
+    client: &mut RuntimeComponents<T>,
     input: GetForecastInput,
     fuel: u64,
 ) -> Result<GetForecastOutput, InvokeError<ForecastError>>

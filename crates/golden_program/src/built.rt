@@ -2,21 +2,19 @@
 //! asks and answers.
 
 use anyhow::Result;
-use auth_endpoint::AuthScheme;
-use client_auth::{DeserializeResponse, IdentitySource, SerializeRequest};
+use client_auth::{DeserializeResponse, IdentitySource};
 use client_builder::{OperationBuilder, Plugin, added, refusal_of};
-use client_components::RuntimeComponents;
-use client_retries::TakeOffer;
+use client_components::{ClientTypes, RuntimeComponents};
 use client_scripted::service::{ServiceDeserializer, ServiceError, ServiceSerializer};
 use http_schemes::bearer::HTTP_BEARER_AUTH_SCHEME_ID;
 use http_schemes::{BearerAuthScheme, HttpIdentityResolver};
-use identity_cell::{IdentityCache, ResolveIdentity};
+use identity_cell::IdentityCache;
 use json_print::print::print_entries;
 use orchestrate::Operation;
 use outside::Outside;
 use outside_scripted::{Row, service};
 use rate_limit::ClientRateLimiter;
-use retry_policy::{Classifier, ClassifyRetry, ModeledAsRetryableClassifier};
+use retry_policy::{Classifier, ModeledAsRetryableClassifier};
 use retry_quota::{Quota, Registry};
 use run_grammar::Entry;
 use smithy_base::ComponentsDraft;
@@ -185,38 +183,20 @@ fn retry() -> RetryConfig {
 }
 
 // Brews with this client.
-fn brew<
-    X: Outside + Drop,
-    Q: Quota + Drop,
-    C: ClassifyRetry,
-    I: TakeOffer,
-    A: AuthScheme,
-    R: ResolveIdentity,
-    Z: SerializeRequest,
-    D: DeserializeResponse,
->(
+fn brew<T: ClientTypes>(
     rt: &HostRuntime,
     operation: Brew,
-    client: RuntimeComponents<X, Q, C, I, A, R, Z, D>,
+    client: RuntimeComponents<T>,
 ) -> Result<()> {
     let mut client = client;
     print_brewed(rt, &operation, &mut client)
 }
 
 // Invokes the operation, and prints the log, the answer, and how many questions were asked.
-fn print_brewed<
-    X: Outside + Drop,
-    Q: Quota + Drop,
-    C: ClassifyRetry,
-    I: TakeOffer,
-    A: AuthScheme,
-    R: ResolveIdentity,
-    Z: SerializeRequest,
-    D: DeserializeResponse,
->(
+fn print_brewed<T: ClientTypes>(
     rt: &HostRuntime,
     operation: &Brew,
-    client: &mut RuntimeComponents<X, Q, C, I, A, R, Z, D>,
+    client: &mut RuntimeComponents<T>,
 ) -> Result<()> {
     let answer = brewed(rt.alloc(), operation, client)?;
     print_log(rt, client.entries().as_slice())?;
@@ -226,19 +206,10 @@ fn print_brewed<
 }
 
 // What the invocation answers, in words.
-fn brewed<
-    X: Outside + Drop,
-    Q: Quota + Drop,
-    C: ClassifyRetry,
-    I: TakeOffer,
-    A: AuthScheme,
-    R: ResolveIdentity,
-    Z: SerializeRequest,
-    D: DeserializeResponse,
->(
+fn brewed<T: ClientTypes>(
     alloc: Global,
     operation: &Brew,
-    client: &mut RuntimeComponents<X, Q, C, I, A, R, Z, D>,
+    client: &mut RuntimeComponents<T>,
 ) -> Result<String> {
     match operation.invoke(alloc, client, input(alloc)?, FUEL) {
         Ok(output) => text_of(alloc, output.bytes.as_slice()),

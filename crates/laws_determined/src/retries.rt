@@ -8,7 +8,7 @@ ghost use Rattle.laws_determined.specs.Retries.Kinds.{DecisionsAreDetermined, Ho
 ghost use Rattle.laws_determined.specs.Retries.Kinds.{InitialsAreDetermined};
 ghost use Rattle.laws_determined.specs.Steady.Steady.{IsSteady};
 
-use client_retries::TakeOffer;
+use client_retries::{InterceptorMeaning, TakeOffer};
 use outside::Outside;
 use retry_quota::Limiter;
 
@@ -31,11 +31,6 @@ pub fn decisions_are_determined<X: Outside, L: Limiter>()
 pub fn hooks_are_determined<X: Outside, L: Limiter, I: TakeOffer>()
     ensures { IsSteady X.makes →
         HooksAreDetermined X.makes (λ (p : Permit). p.bucket) (λ (p : Permit). p.amount)
-        (limiters_by L.at L.after_acquire L.reply_to L.after_update) (record {
-          names = I.names;
-          hooks = I.hooks;
-          runs = I.runs;
-          with_bucket = I.with_bucket;
-          with_verdict = I.with_verdict;
-        }) }
+        (limiters_by L.at L.after_acquire L.reply_to L.after_update)
+        ⟦<I as InterceptorMeaning>⟧.means }
 {}

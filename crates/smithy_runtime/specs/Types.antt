@@ -32,6 +32,7 @@ pub use Rattle.client_builder.specs.declared.builder.OperationBuilder
 pub use Rattle.client_builder.specs.declared.plugin.Plugin
 pub use Rattle.client_builder.specs.declared.scheme.Scheme
 pub use Rattle.client_components.specs.declared.parts.Parts
+pub use Rattle.client_components.specs.declared.types.TypesOf
 pub use Rattle.client_components.specs.declared.world.RuntimeComponents
 pub use Rattle.run_grammar.specs.declared.answer.Answer
 pub use Rattle.run_grammar.specs.declared.answer.Entry

@@ -19,7 +19,7 @@ pub use client_auth::{
 pub use client_builder::{
     BuildRefusal, Client, IdentityResolver, OperationBuilder, Plugin, Scheme, added, refusal_of,
 };
-pub use client_components::{Parts, RuntimeComponents};
+pub use client_components::{ClientMeans, ClientTypes, Parts, RuntimeComponents, TypesOf};
 pub use client_retries::TakeOffer;
 pub use orchestrate::{
     Answer, Entry, Invocation, InvokeError, Kind, Operation, Question, ScriptAnswer, ScriptWorld,

@@ -41,7 +41,8 @@ use Rattle.smithy_types.specs.declared.http.HttpRequest.{HttpRequest}
 use Rattle.smithy_types.specs.declared.identity.Endpoint.{Endpoint}
 use Rattle.smithy_types.specs.declared.identity.Identity.{Identity}
 use Rattle.client_components.specs.Retrying.{decided_view, verdict_on}
-use Rattle.client_components.specs.Serving.{Means, Answers, Served}
+use Rattle.client_components.specs.Meaning.{ClientMeaning}
+use Rattle.client_components.specs.Serving.{Answers, Served}
 use Rattle.client_components.specs.declared.parts.Parts.{Parts}
 use Rattle.laws_client.specs.Questions.Answering.{AbsenceCause, AbsencesHaveCauses}
 use Rattle.laws_client.specs.Questions.Handing.{HandsParts}
@@ -107,7 +108,7 @@ not_applied (Some request) (Some endpoint) settings a p h e = subst (AppliesTo r
 unfit : (q : Question) (a : Answer) → fits (kind_of_question q) answers.Absent ≡ false → fits (kind_of_question q) a ≡ true → a ≡ answers.Absent → ⊥
 unfit q a n f e = let clash = sym n ∙ (ap (fits (kind_of_question q)) (sym e) ∙ f) in cc clash
 
-module _ {X Q P L C I A R Z D : Type 0} (means : Means X Q P L C I A R Z D) where
+module _ {T X Q C I A R Z D P L : Type 0} (means : ClientMeaning T X Q C I A R Z D P L) where
   at_scheme : (schemes : List A) (place : Option ℕ) (request : HttpRequest) (identity : Identity) (endpoint : Endpoint) (a : Answer)
       → signing.SignsAt means.names means.signs schemes place request identity endpoint a → a ≡ answers.Absent → place ≡ None
   at_scheme schemes None request identity endpoint a h e = refl
@@ -122,7 +123,7 @@ module _ {X Q P L C I A R Z D : Type 0} (means : Means X Q P L C I A R Z D) wher
   unsigned schemes settings (Some request) (Some id) (Some identity) (Some endpoint) a p k h e =
       not_placed means.names id schemes k (at_scheme schemes (position (λ s. is_id id (means.names s)) schemes) request identity endpoint a h e)
 
-  answered : (old new : Parts X Q C I A R Z D P L) (q : Question) (a : Answer) → HandsParts q → HandsKnown (scheme_ids means old) q → (kind_of_question q ≡ kinds.Body → IsOpen old.call) → fits (kind_of_question q) a ≡ true → Answers means old q a new
+  answered : (old new : Parts T X Q C I A R Z D P L) (q : Question) (a : Answer) → HandsParts q → HandsKnown (scheme_ids means old) q → (kind_of_question q ≡ kinds.Body → IsOpen old.call) → fits (kind_of_question q) a ≡ true → Answers means old q a new
       → a ≡ answers.Absent → AbsenceCause means old q
   unfolding fits
   answered old new (questions.Configure stages.Client settings) a p k o f h e = let clash = sym e ∙ h.0 in cc clash
@@ -160,7 +161,7 @@ module _ {X Q P L C I A R Z D : Type 0} (means : Means X Q P L C I A R Z D) wher
   answered old new questions.Park a p k o f h e = unfit questions.Park a refl f e
 
   -- where there is a cause
-  caused : (old new : Parts X Q C I A R Z D P L) (q : Question) (a : Answer) → Answers means old q a new → AbsenceCause means old q → a ≡ answers.Absent
+  caused : (old new : Parts T X Q C I A R Z D P L) (q : Question) (a : Answer) → Answers means old q a new → AbsenceCause means old q → a ≡ answers.Absent
   caused old new (questions.Initial settings) a h c = (begun_exactly means.quota old.given.time_source settings old.strategy old.quota a new.strategy h.calls new.quota h.begun).1 c
   caused old new (questions.Start role nanos) a h c = (absent_without_sleeps old.given.sleep_impl role nanos old.sleeps a new.sleeps h.0.calls h.0.these).1 c
   caused old new (questions.Decide settings request response outcome attempt) a h c =
@@ -170,8 +171,8 @@ module _ {X Q P L C I A R Z D : Type 0} (means : Means X Q P L C I A R Z D) wher
 
   -- ---- lists
 
-  pub last_served : (before : List Entry) (e : Entry) (old new : Parts X Q C I A R Z D P L) → Served means old (before ++ e ∷ []) new
-      → (mid : Parts X Q C I A R Z D P L) × Served means old before mid × Answers means mid e.question e.answer new
+  pub last_served : (before : List Entry) (e : Entry) (old new : Parts T X Q C I A R Z D P L) → Served means old (before ++ e ∷ []) new
+      → (mid : Parts T X Q C I A R Z D P L) × Served means old before mid × Answers means mid e.question e.answer new
   last_served [] e old new (mid, serves, same) = (old, refl, subst (Answers means old e.question e.answer) (sym same) serves)
   last_served (x ∷ before) e old new (mid, serves, rest) = let r = last_served before e mid new rest in (r.0, (mid, serves, r.1), r.2)
 

@@ -1,12 +1,13 @@
 -- A sleep that was started is open until it is ended, and over only where the outside said so.
-use Rattle.std.proofs.Common.{◌≡◌, ◌∙◌, ◌↔◌, ap, refl, subst, sym, ℕ, Bool, true, false, not, IsSome, IsTrue, List, [], ◌∷◌, ◌++◌, Ok, Option, None, Some}
+use Rattle.std.proofs.Common.{◌≡◌, ◌∙◌, ◌↔◌, ap, refl, subst, sym, ℕ, Bool, true, not, IsSome, IsTrue, List, [], ◌∷◌, ◌++◌, Ok, Option, None, Some}
 use Rattle.std.specs.List.{AllByRecursion}
 use Rattle.client_call.specs.Ending.{sleeps_without}
 use Rattle.client_call.specs.Sleeping as sleeping
-use Rattle.client_call.specs.Sleeping.{giving_up, no_sleeps, sleep_of, with_sleep}
+use Rattle.client_call.specs.Sleeping.{giving_up, sleep_of, with_sleep}
 use Rattle.client_call.specs.declared.sleeping.Sleeps.{Sleeps}
 use Rattle.client_components.specs.Retrying.{sleeps_after}
-use Rattle.client_components.specs.Serving.{Answers, Means, Served}
+use Rattle.client_components.specs.Meaning.{ClientMeaning}
+use Rattle.client_components.specs.Serving.{Answers, Served}
 use Rattle.client_components.specs.declared.parts.Parts.{Parts}
 use Rattle.outside.specs.Calls.{OutsideCall, OfTimers}
 use Rattle.run_grammar.specs.Entry.{entry, same_role}
@@ -23,7 +24,7 @@ use Rattle.run_grammar.specs.declared.question.Question.TheVariants as questions
 use Rattle.smithy_types.specs.Chain.{Chained}
 use Rattle.smithy_types.specs.declared.hook.Hook.{Hook}
 use Rattle.smithy_types.specs.declared.hook.Hook.TheVariants as hooks
-use Rattle.smithy_types.specs.declared.timers.TimersCall.TheVariants.{GiveUp, Ready, Start}
+use Rattle.smithy_types.specs.declared.timers.TimersCall.TheVariants.{Ready, Start}
 use Rattle.laws_client.specs.Questions.Sleeping.{SaidOver, WaitsAreOverAsTold, abandoned_leaves, hook_leaves, leaves_sleep}
 
 -- ---- the sleep of one role beside those of the others
@@ -83,13 +84,13 @@ module _ {X : Type 0} (makes : X → OutsideCall → X → Type 0) (sleeps : X �
   one_made : (old new : X) (calls : List OutsideCall) (call : OutsideCall) → calls ≡ call ∷ [] → Chained makes old calls new → makes old call new
   one_made old new calls call is made = let one = subst (λ l. Chained makes old l new) is made in subst (makes old call) (sym one.2) one.1
 
-module _ {X Q P L C I A R Z D : Type 0} (means : Means X Q P L C I A R Z D) (stay : (old : X) (call : OutsideCall) (new : X) → means.makes old call new → means.sleeps new ≡ means.sleeps old)
+module _ {T X Q C I A R Z D P L : Type 0} (means : ClientMeaning T X Q C I A R Z D P L) (stay : (old : X) (call : OutsideCall) (new : X) → means.makes old call new → means.sleeps new ≡ means.sleeps old)
     (starts : (old : X) (nanos : ℕ) (sleep : Option ℕ) (new : X) → means.makes old (OfTimers (Start nanos (Ok sleep))) new → IsSome sleep ↔ IsTrue (means.sleeps old)) where
-  abbrev sleep_in : Role → Parts X Q C I A R Z D P L → Option ℕ
+  abbrev sleep_in : Role → Parts T X Q C I A R Z D P L → Option ℕ
   sleep_in role parts = sleep_of role parts.sleeps
 
   -- a question that leaves the role's sleep alone keeps it
-  kept : (role : Role) (old new : Parts X Q C I A R Z D P L) (q : Question) (a : Answer) → leaves_sleep role q ≡ true → Answers means old q a new → sleep_in role new ≡ sleep_in role old
+  kept : (role : Role) (old new : Parts T X Q C I A R Z D P L) (q : Question) (a : Answer) → leaves_sleep role q ≡ true → Answers means old q a new → sleep_in role new ≡ sleep_in role old
   kept role old new (questions.Configure stages.Client settings) a e h = absurd (cc e)
   kept role old new (questions.Configure stages.Operation settings) a e h = ap (sleep_in role) h.1
   kept role old new (questions.Configure stages.Final settings) a e h = ap (sleep_in role) h.1
@@ -113,7 +114,7 @@ module _ {X Q P L C I A R Z D : Type 0} (means : Means X Q P L C I A R Z D) (sta
   kept role old new questions.Park a e h = ap (sleep_in role) h.2
 
   -- entries that leave it alone, and then a Wait for it
-  waits_behind : (role : Role) (l : List Entry) (old new : Parts X Q C I A R Z D P L) (number : ℕ) → sleep_in role old ≡ Some number
+  waits_behind : (role : Role) (l : List Entry) (old new : Parts T X Q C I A R Z D P L) (number : ℕ) → sleep_in role old ≡ Some number
       → Served means old (l ++ entry (questions.Wait role) answers.Ready ∷ []) new → AllByRecursion (λ e. leaves_sleep role e.question ≡ true) l → SaidOver means old role l new
   waits_behind role [] old new number running (mid, waits, same) alone =
       let one = waited (sleep_in role old) number waits.0.calls running waits.0.these in
@@ -122,7 +123,7 @@ module _ {X Q P L C I A R Z D : Type 0} (means : Means X Q P L C I A R Z D) (sta
         served = refl;
         sleep = number;
         running = running;
-        said = subst (λ (p : Parts X Q C I A R Z D P L). means.makes old.outside (OfTimers (Ready number true)) p.outside) (sym same)
+        said = subst (λ (p : Parts T X Q C I A R Z D P L). means.makes old.outside (OfTimers (Ready number true)) p.outside) (sym same)
             (one_made means.makes means.sleeps stay starts old.outside mid.outside waits.0.calls (OfTimers (Ready number true)) one waits.0.made);
       }
   waits_behind role (e ∷ l) old new number running (mid, serves, rest) alone =

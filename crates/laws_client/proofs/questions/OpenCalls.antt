@@ -23,7 +23,8 @@ use Rattle.smithy_context.specs.StandingLayers.{StandingLayers}
 use Rattle.smithy_types.specs.declared.fault.Fault.{Fault}
 use Rattle.smithy_types.specs.declared.http.HttpRequest.{HttpRequest}
 use Rattle.smithy_types.specs.declared.http.HttpResponse.{HttpResponse}
-use Rattle.client_components.specs.Serving.{Means, Answers, Served}
+use Rattle.client_components.specs.Meaning.{ClientMeaning}
+use Rattle.client_components.specs.Serving.{Answers, Served}
 use Rattle.client_components.specs.declared.parts.Parts.{Parts}
 use Rattle.laws_client.proofs.questions.Bodies.{along, came, opens}
 
@@ -89,12 +90,12 @@ not_absent sleeps settings response old a new calls o h e =
     let reads = subst (λ c. ReadsOn sleeps c a new h.reading) body.1 h.reads in
     closed_not_absent reads.stop reads.end a new reads.closes e
 
-module _ {X Q P L C I A R Z D : Type 0} (means : Means X Q P L C I A R Z D) where
+module _ {T X Q C I A R Z D P L : Type 0} (means : ClientMeaning T X Q C I A R Z D P L) where
   -- a body is open where it is said so
-  abbrev pub Says : Bool → Parts X Q C I A R Z D P L → Type 0
+  abbrev pub Says : Bool → Parts T X Q C I A R Z D P L → Type 0
   Says b parts = b ≡ true → IsOpen parts.call
 
-  says_step : (old new : Parts X Q C I A R Z D P L) (q : Question) (a : Answer) (b : Bool) → Says b old → Answers means old q a new → Says (opens b (kind_of_question q) a) new
+  says_step : (old new : Parts T X Q C I A R Z D P L) (q : Question) (a : Answer) (b : Bool) → Says b old → Answers means old q a new → Says (opens b (kind_of_question q) a) new
   says_step old new (questions.Configure stage settings) a b s h = λ o. absurd (cc o)
   says_step old new (questions.Hook hook view) a b s h = subst (Says b) (sym h.others) s
   says_step old new (questions.Serialize input settings) a b s h = subst (Says b) (sym h.1) s
@@ -114,7 +115,7 @@ module _ {X Q P L C I A R Z D : Type 0} (means : Means X Q P L C I A R Z D) wher
   says_step old new (questions.Abandon abandoned) a b s h = λ o. absurd (cc o)
   says_step old new questions.Park a b s h = subst (Says b) (sym h.2) s
 
-  pub says_on : (before : List Entry) (old mid : Parts X Q C I A R Z D P L) (b : Bool) → Says b old → Served means old before mid → along b before ≡ true → IsOpen mid.call
+  pub says_on : (before : List Entry) (old mid : Parts T X Q C I A R Z D P L) (b : Bool) → Says b old → Served means old before mid → along b before ≡ true → IsOpen mid.call
   says_on [] old mid b s same = subst (Says b) (sym same) s
   says_on (x ∷ before) old mid b s (next, serves, rest) =
       says_on before next mid (opens b (kind_of x) x.answer) (says_step old next x.question x.answer b s serves) rest

@@ -26,7 +26,8 @@ use Rattle.run_grammar.specs.Standing.{State, WellHanded, asked, standing, start
 use Rattle.run_grammar.proofs.TheLaws.{begins_stands}
 use Rattle.smithy_context.specs.StandingLayers.{StandingLayers}
 use Rattle.smithy_types.specs.declared.kinds.StopPoint.{StopPoint}
-use Rattle.client_components.specs.Serving.{Means, Answers, Served, Serves}
+use Rattle.client_components.specs.Meaning.{ClientMeaning}
+use Rattle.client_components.specs.Serving.{Answers, Served, Serves}
 use Rattle.client_components.specs.declared.parts.Parts.{Parts}
 use Rattle.laws_client.specs.Questions.OwnLoads.{ChoicesGoOnWithOwn, PicksFrom, Stores, current_of}
 use Rattle.laws_client.proofs.questions.Answered.{last_served}
@@ -97,24 +98,24 @@ awaited_none : (cached : Option CachedIdentities) → current_of cached ≡ None
 awaited_none None n = tt
 awaited_none (Some cached) n = subst (IsAwaited cached.cache) (sym n) tt
 
-module _ {X Q P L C I A R Z D : Type 0} (means : Means X Q P L C I A R Z D) where
-  abbrev NoLoad : Parts X Q C I A R Z D P L → Type 0
+module _ {T X Q C I A R Z D P L : Type 0} (means : ClientMeaning T X Q C I A R Z D P L) where
+  abbrev NoLoad : Parts T X Q C I A R Z D P L → Type 0
   NoLoad parts = current_of parts.identities.cached ≡ None
 
   -- a load that is open is of the scheme that is picked by these settings, and its cell waits for it
-  abbrev OwnLoad : StandingLayers → Parts X Q C I A R Z D P L → Type 0
+  abbrev OwnLoad : StandingLayers → Parts T X Q C I A R Z D P L → Type 0
   OwnLoad settings parts = IsAmong (PicksFrom means parts settings) (current_of parts.identities.cached) × IsAwaitedIn parts.identities.cached
 
-  none_own : (settings : StandingLayers) (parts : Parts X Q C I A R Z D P L) → NoLoad parts → OwnLoad settings parts
+  none_own : (settings : StandingLayers) (parts : Parts T X Q C I A R Z D P L) → NoLoad parts → OwnLoad settings parts
   none_own settings parts n = (subst (IsAmong (PicksFrom means parts settings)) (sym n) tt, awaited_none parts.identities.cached n)
 
-  choose_step : (old new : Parts X Q C I A R Z D P L) (settings : StandingLayers) (a : Answer) → OwnLoad settings old → Answers means old (questions.Choose settings) a new
+  choose_step : (old new : Parts T X Q C I A R Z D P L) (settings : StandingLayers) (a : Answer) → OwnLoad settings old → Answers means old (questions.Choose settings) a new
       → OwnLoad settings new × (is_pending a ≡ false → NoLoad new) × Stores a new.identities.cached
   choose_step old new settings a own h =
       let left = choice_left means.names means.polls old.given.options old.given.schemes.items old.given.endpoint settings old.given.time_source old.identities.cached old.identities a new.identities h.calls refl own.0 own.1 h.chooses in
       (subst (OwnLoad settings) (sym h.others) (left.own, left.awaited), left.ended, left.stored)
 
-  keeps_none : (old new : Parts X Q C I A R Z D P L) (q : Question) (a : Answer) → chooses (kind_of_question q) ≡ false → NoLoad old → Answers means old q a new → NoLoad new
+  keeps_none : (old new : Parts T X Q C I A R Z D P L) (q : Question) (a : Answer) → chooses (kind_of_question q) ≡ false → NoLoad old → Answers means old q a new → NoLoad new
   keeps_none old new (questions.Configure stages.Client settings) a c s h = subst NoLoad (sym h.1.others) (rested_none old.identities.cached)
   keeps_none old new (questions.Configure stages.Operation settings) a c s h = subst NoLoad (sym h.1) s
   keeps_none old new (questions.Configure stages.Final settings) a c s h = subst NoLoad (sym h.1) s
@@ -140,65 +141,65 @@ module _ {X Q P L C I A R Z D : Type 0} (means : Means X Q P L C I A R Z D) wher
   -- ---- positions of a run
 
   -- at a question: what an earlier run left is ended by the first
-  abbrev MindsAsk : Kind → StandingLayers → Parts X Q C I A R Z D P L → Type 0
+  abbrev MindsAsk : Kind → StandingLayers → Parts T X Q C I A R Z D P L → Type 0
   MindsAsk kinds.Choose l parts = OwnLoad l parts
   MindsAsk (kinds.Configure stages.Client) l parts = Unit {0}
   MindsAsk _ l parts = NoLoad parts
 
-  abbrev MindsWait : Kind → StandingLayers → Parts X Q C I A R Z D P L → Type 0
+  abbrev MindsWait : Kind → StandingLayers → Parts T X Q C I A R Z D P L → Type 0
   MindsWait kinds.Choose l parts = OwnLoad l parts
   MindsWait _ l parts = NoLoad parts
 
-  abbrev MindsCut : Kind → Parts X Q C I A R Z D P L → Type 0
+  abbrev MindsCut : Kind → Parts T X Q C I A R Z D P L → Type 0
   MindsCut kinds.Choose parts = Unit {0}
   MindsCut _ parts = NoLoad parts
 
-  abbrev Minds : Position → StandingLayers → Parts X Q C I A R Z D P L → Type 0
+  abbrev Minds : Position → StandingLayers → Parts T X Q C I A R Z D P L → Type 0
   Minds Whole l parts = Unit {0}
   Minds Dead l parts = Unit {0}
   Minds (Asking k es r) l parts = MindsAsk k l parts
   Minds (Waiting k es ds r) l parts = MindsWait k l parts
   Minds (Cutting k d r) l parts = MindsCut k parts
 
-  none_asks : (k : Kind) (l : StandingLayers) (parts : Parts X Q C I A R Z D P L) → NoLoad parts → MindsAsk k l parts
+  none_asks : (k : Kind) (l : StandingLayers) (parts : Parts T X Q C I A R Z D P L) → NoLoad parts → MindsAsk k l parts
   none_asks kinds.Choose l parts n = none_own l parts n
   none_asks (kinds.Configure stages.Client) l parts n = tt
   none_asks _ l parts n = n
 
-  none_waits : (k : Kind) (l : StandingLayers) (parts : Parts X Q C I A R Z D P L) → NoLoad parts → MindsWait k l parts
+  none_waits : (k : Kind) (l : StandingLayers) (parts : Parts T X Q C I A R Z D P L) → NoLoad parts → MindsWait k l parts
   none_waits kinds.Choose l parts n = none_own l parts n
   none_waits _ l parts n = n
 
-  none_cuts : (k : Kind) (parts : Parts X Q C I A R Z D P L) → NoLoad parts → MindsCut k parts
+  none_cuts : (k : Kind) (parts : Parts T X Q C I A R Z D P L) → NoLoad parts → MindsCut k parts
   none_cuts kinds.Choose parts n = tt
   none_cuts _ parts n = n
 
-  none_minds : (p : Position) (l : StandingLayers) (parts : Parts X Q C I A R Z D P L) → NoLoad parts → Minds p l parts
+  none_minds : (p : Position) (l : StandingLayers) (parts : Parts T X Q C I A R Z D P L) → NoLoad parts → Minds p l parts
   none_minds Whole l parts n = tt
   none_minds Dead l parts n = tt
   none_minds (Asking k es r) l parts n = none_asks k l parts n
   none_minds (Waiting k es ds r) l parts n = none_waits k l parts n
   none_minds (Cutting k d r) l parts n = none_cuts k parts n
 
-  waits_ask : (k : Kind) (l : StandingLayers) (parts : Parts X Q C I A R Z D P L) → MindsWait k l parts → MindsAsk k l parts
+  waits_ask : (k : Kind) (l : StandingLayers) (parts : Parts T X Q C I A R Z D P L) → MindsWait k l parts → MindsAsk k l parts
   waits_ask kinds.Choose l parts m = m
   waits_ask (kinds.Configure stages.Client) l parts m = tt
   waits_ask _ l parts m = m
 
-  waits_cut : (k : Kind) (l : StandingLayers) (parts : Parts X Q C I A R Z D P L) → MindsWait k l parts → MindsCut k parts
+  waits_cut : (k : Kind) (l : StandingLayers) (parts : Parts T X Q C I A R Z D P L) → MindsWait k l parts → MindsCut k parts
   waits_cut kinds.Choose l parts m = tt
   waits_cut _ l parts m = m
 
-  waits_moved : (k : Kind) (l : StandingLayers) (parts : Parts X Q C I A R Z D P L) (outside : X) → MindsWait k l parts → MindsWait k l (record parts { outside = outside })
+  waits_moved : (k : Kind) (l : StandingLayers) (parts : Parts T X Q C I A R Z D P L) (outside : X) → MindsWait k l parts → MindsWait k l (record parts { outside = outside })
   waits_moved kinds.Choose l parts outside m = m
   waits_moved _ l parts outside m = m
 
   -- ---- steps
 
-  as_asked : (k : Kind) (s : State) (e : Entry) (old new : Parts X Q C I A R Z D P L) → kind_of e ≡ k → e.question ≡ asked (kind_of e) s → Serves means old e new → Answers means old (asked k s) e.answer new
+  as_asked : (k : Kind) (s : State) (e : Entry) (old new : Parts T X Q C I A R Z D P L) → kind_of e ≡ k → e.question ≡ asked (kind_of e) s → Serves means old e new → Answers means old (asked k s) e.answer new
   as_asked k s e old new is handed serves = subst (λ q. Answers means old q e.answer new) (handed ∙ ap (λ j. asked j s) is) serves
 
-  asking_choose : (es : List Role) (r : Production) (s : State) (e : Entry) (old new : Parts X Q C I A R Z D P L) → kind_of e ≡ kinds.Choose → OwnLoad (settings_of s) old → Answers means old (questions.Choose (settings_of s)) e.answer new
+  asking_choose : (es : List Role) (r : Production) (s : State) (e : Entry) (old new : Parts T X Q C I A R Z D P L) → kind_of e ≡ kinds.Choose → OwnLoad (settings_of s) old → Answers means old (questions.Choose (settings_of s)) e.answer new
       → Minds (cond (pending e) (Waiting kinds.Choose es es r) (begin r (step s e))) (settings_of (step s e)) new
   asking_choose es r s e old new is own h =
       let so = choose_step old new (settings_of s) e.answer own h in
@@ -208,7 +209,7 @@ module _ {X Q P L C I A R Z D : Type 0} (means : Means X Q P L C I A R Z D) wher
         | false ↦ λ p. none_minds (begin r (step s e)) (settings_of (step s e)) new (so.1 (sym same ∙ p))
       ]) refl
 
-  asking_step : (k : Kind) (es : List Role) (r : Production) (s : State) (e : Entry) (old new : Parts X Q C I A R Z D P L) → kind_of e ≡ k → e.question ≡ asked (kind_of e) s → MindsAsk k (settings_of s) old → Serves means old e new
+  asking_step : (k : Kind) (es : List Role) (r : Production) (s : State) (e : Entry) (old new : Parts T X Q C I A R Z D P L) → kind_of e ≡ k → e.question ≡ asked (kind_of e) s → MindsAsk k (settings_of s) old → Serves means old e new
       → Minds (cond (pending e) (Waiting k es es r) (begin r (step s e))) (settings_of (step s e)) new
   unfolding asked
   asking_step kinds.Choose es r s e old new is handed m serves = asking_choose es r s e old new is m (as_asked kinds.Choose s e old new is handed serves)
@@ -218,7 +219,7 @@ module _ {X Q P L C I A R Z D : Type 0} (means : Means X Q P L C I A R Z D) wher
   asking_step k es r s e old new is handed m serves =
       none_minds (cond (pending e) (Waiting k es es r) (begin r (step s e))) (settings_of (step s e)) new (keeps_none old new e.question e.answer (ap chooses is) m serves)
 
-  waiting_step : (k : Kind) (es ds : List Role) (r : Production) (s : State) (e : Entry) (old new : Parts X Q C I A R Z D P L) → Asks (Waiting k es ds r) (kind_of e) → e.question ≡ asked (kind_of e) s → MindsWait k (settings_of s) old → Serves means old e new
+  waiting_step : (k : Kind) (es ds : List Role) (r : Production) (s : State) (e : Entry) (old new : Parts T X Q C I A R Z D P L) → Asks (Waiting k es ds r) (kind_of e) → e.question ≡ asked (kind_of e) s → MindsWait k (settings_of s) old → Serves means old e new
       → Minds (next (Waiting k es ds r) (step s e) e) (settings_of (step s e)) new
   unfolding asked
   waiting_step k es [] r s e old new is handed m serves =
@@ -237,7 +238,7 @@ module _ {X Q P L C I A R Z D : Type 0} (means : Means X Q P L C I A R Z D) wher
         ])
       ]) refl
 
-  cutting_step : (k : Kind) (d : Role) (r : Production) (s : State) (e : Entry) (old new : Parts X Q C I A R Z D P L) → kind_of e ≡ abandon_of k → e.question ≡ asked (kind_of e) s → MindsCut k old → Serves means old e new
+  cutting_step : (k : Kind) (d : Role) (r : Production) (s : State) (e : Entry) (old new : Parts T X Q C I A R Z D P L) → kind_of e ≡ abandon_of k → e.question ≡ asked (kind_of e) s → MindsCut k old → Serves means old e new
       → Minds (after_cut (cut r d) (step s e)) (settings_of (step s e)) new
   unfolding asked
   cutting_step kinds.Choose d r s e old new is handed m serves =
@@ -246,7 +247,7 @@ module _ {X Q P L C I A R Z D : Type 0} (means : Means X Q P L C I A R Z D) wher
   cutting_step k d r s e old new is handed m serves =
       none_minds (after_cut (cut r d) (step s e)) (settings_of (step s e)) new (keeps_none old new e.question e.answer (ap chooses is ∙ abandons_no_choice k) m serves)
 
-  minds_step : (p : Position) (s : State) (e : Entry) (old new : Parts X Q C I A R Z D P L) → Asks p (kind_of e) → e.question ≡ asked (kind_of e) s → Minds p (settings_of s) old → Serves means old e new
+  minds_step : (p : Position) (s : State) (e : Entry) (old new : Parts T X Q C I A R Z D P L) → Asks p (kind_of e) → e.question ≡ asked (kind_of e) s → Minds p (settings_of s) old → Serves means old e new
       → Minds (next p (step s e) e) (settings_of (step s e)) new
   minds_step Whole s e old new is handed m serves = absurd is
   minds_step Dead s e old new is handed m serves = absurd is
@@ -256,7 +257,7 @@ module _ {X Q P L C I A R Z D : Type 0} (means : Means X Q P L C I A R Z D) wher
 
   -- ---- runs
 
-  asks_choice : (p : Position) (l : StandingLayers) (parts : Parts X Q C I A R Z D P L) (k : Kind) → Asks p k → k ≡ kinds.Choose → Minds p l parts → OwnLoad l parts
+  asks_choice : (p : Position) (l : StandingLayers) (parts : Parts T X Q C I A R Z D P L) (k : Kind) → Asks p k → k ≡ kinds.Choose → Minds p l parts → OwnLoad l parts
   asks_choice Whole l parts k is choice m = absurd is
   asks_choice Dead l parts k is choice m = absurd is
   asks_choice (Asking j es r) l parts k is choice m = subst (λ i. MindsAsk i l parts) (sym is ∙ choice) m
@@ -264,13 +265,13 @@ module _ {X Q P L C I A R Z D : Type 0} (means : Means X Q P L C I A R Z D) wher
   asks_choice (Waiting j es (d ∷ ds) r) l parts k is choice m = absurd (let clash = sym choice ∙ is in cc clash)
   asks_choice (Cutting j d r) l parts k is choice m = absurd (let clash = sym (ap chooses choice) ∙ (ap chooses is ∙ abandons_no_choice j) in cc clash)
 
-  at_choice : (before : List Entry) (e : Entry) (p : Position) (s : State) (old mid : Parts X Q C I A R Z D P L) → Path p s (before ++ e ∷ []) → WellHanded s (before ++ e ∷ []) → Minds p (settings_of s) old → Served means old before mid
+  at_choice : (before : List Entry) (e : Entry) (p : Position) (s : State) (old mid : Parts T X Q C I A R Z D P L) → Path p s (before ++ e ∷ []) → WellHanded s (before ++ e ∷ []) → Minds p (settings_of s) old → Served means old before mid
       → kind_of e ≡ kinds.Choose → OwnLoad (settings_of (standing s before)) mid
   at_choice [] e p s old mid path handed m same choice = subst (OwnLoad (settings_of s)) (sym same) (asks_choice p (settings_of s) old (kind_of e) path.0 choice m)
   at_choice (x ∷ before) e p s old mid path handed m (parts, serves, rest) choice =
       at_choice before e (next p (step s x) x) (step s x) parts mid path.1 handed.1 (minds_step p s x old parts path.0 handed.0 m serves) rest choice
 
-  begins_minded : (stop : StopPoint) (s : State) (parts : Parts X Q C I A R Z D P L) → Minds (begin (run stop) s) (settings_of s) parts
+  begins_minded : (stop : StopPoint) (s : State) (parts : Parts T X Q C I A R Z D P L) → Minds (begin (run stop) s) (settings_of s) parts
   unfolding run
   begins_minded stop s parts = tt
 

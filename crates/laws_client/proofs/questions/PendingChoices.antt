@@ -4,6 +4,7 @@ use Rattle.std.proofs.Common.{refl, sym, subst, [], ◌∷◌, Option, None, Som
 use Rattle.client_auth.specs.Identities.{rested}
 use Rattle.client_auth.specs.declared.identities.CachedIdentities.{CachedIdentities}
 use Rattle.identity_cell.specs.declared.identity_cache.SharedIdentityCache.TheVariants.{NoCache, Lazy}
+use Rattle.outside.specs.Calls.{OutsideCall}
 use Rattle.run_grammar.specs.Entry.{entry}
 use Rattle.run_grammar.specs.declared.answer.Answer.{Answer}
 use Rattle.run_grammar.specs.declared.answer.Answer.TheVariants as answers
@@ -11,9 +12,11 @@ use Rattle.run_grammar.specs.declared.kind.Abandonable.TheVariants as abandoned
 use Rattle.run_grammar.specs.declared.kind.ConfigureStage.TheVariants as stages
 use Rattle.run_grammar.specs.declared.question.Question.{Question}
 use Rattle.run_grammar.specs.declared.question.Question.TheVariants as questions
-use Rattle.client_components.specs.Serving.{Means, Answers}
+use Rattle.client_components.specs.Resting.{Exchanges}
+use Rattle.client_components.specs.Meaning.{ClientMeaning}
+use Rattle.client_components.specs.Serving.{Answers}
 use Rattle.client_components.specs.declared.parts.Parts.{Parts}
-use Rattle.laws_client.specs.Questions.Loading.{BeginsAlone, ExchangedAlone, LoadsAlone, LoadsStayAlone, NoneLoads, PendingChoicesAsked}
+use Rattle.laws_client.specs.Questions.Loading.{BeginsAlone, LoadsAlone, LoadsStayAlone, NoneLoads, PendingChoicesAsked}
 use Rattle.laws_client.proofs.questions.Answered.{last_served}
 use Rattle.laws_client.proofs.questions.Pendings.{choice_alone, choice_pends}
 
@@ -25,11 +28,17 @@ pub begins_alone : {R : Type 0} → BeginsAlone R
 begins_alone identities NoCache is = subst (λ c. NoneLoads (rested c)) (sym is) tt
 begins_alone identities (Lazy terms) is = subst (λ c. NoneLoads (rested c)) (sym is) tt
 
-module _ {X Q P L C I A R Z D : Type 0} (means : Means X Q P L C I A R Z D) where
-  abbrev IsAlone : Parts X Q C I A R Z D P L → Type 0
-  IsAlone parts = LoadsAlone parts.identities
+abbrev IsAlone : {T X Q C I A R Z D P L : Type 0} → Parts T X Q C I A R Z D P L → Type 0
+IsAlone parts = LoadsAlone parts.identities
 
-  alone_step : (old new : Parts X Q C I A R Z D P L) (q : Question) (a : Answer) → IsAlone old → Answers means old q a new → IsAlone new
+-- of the outside's calls alone, which is all that an exchange is about
+pub exchanged_alone : {T X Q C I A R Z D P L : Type 0} (makes : X → OutsideCall → X → Type 0) (old : Parts T X Q C I A R Z D P L) (outside : X) (quota : Q) (new : Parts T X Q C I A R Z D P L) (outside_after : X) (quota_after : Q)
+    → IsAlone old → Exchanges makes old outside quota new outside_after quota_after → IsAlone new
+exchanged_alone makes old outside quota new outside_after quota_after alone h =
+    subst IsAlone (sym h.parts) (subst IsAlone (sym h.ends.others) (still_at_rest old.identities.cached alone))
+
+module _ {T X Q C I A R Z D P L : Type 0} (means : ClientMeaning T X Q C I A R Z D P L) where
+  alone_step : (old new : Parts T X Q C I A R Z D P L) (q : Question) (a : Answer) → IsAlone old → Answers means old q a new → IsAlone new
   alone_step old new (questions.Configure stages.Client settings) a s h = subst IsAlone (sym h.1.others) (still_at_rest old.identities.cached s)
   alone_step old new (questions.Configure stages.Operation settings) a s h = subst IsAlone (sym h.1) s
   alone_step old new (questions.Configure stages.Final settings) a s h = subst IsAlone (sym h.1) s
@@ -56,10 +65,6 @@ module _ {X Q P L C I A R Z D : Type 0} (means : Means X Q P L C I A R Z D) wher
   pub loads_alone : LoadsStayAlone means
   loads_alone old new [] alone same = subst IsAlone (sym same) alone
   loads_alone old new (e ∷ l) alone (next, serves, rest) = loads_alone next new l (alone_step old next e.question e.answer alone serves) rest
-
-  pub exchanged_alone : ExchangedAlone means
-  exchanged_alone old outside quota new outside_after quota_after alone h =
-      subst IsAlone (sym h.parts) (subst IsAlone (sym h.ends.others) (still_at_rest old.identities.cached alone))
 
   pub pending_asked : PendingChoicesAsked means
   pending_asked old new before settings alone served =

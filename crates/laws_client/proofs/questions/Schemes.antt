@@ -27,7 +27,8 @@ use Rattle.run_grammar.specs.Entry.{kind_of}
 use Rattle.run_grammar.specs.Question.{kind_of_question, nanos_of}
 use Rattle.run_grammar.specs.Standing.{State, asked, standing, step}
 use Rattle.run_grammar.proofs.Outcomes.{either_way}
-use Rattle.client_components.specs.Serving.{Means, Answers, Served}
+use Rattle.client_components.specs.Meaning.{ClientMeaning}
+use Rattle.client_components.specs.Serving.{Answers, Served}
 use Rattle.client_components.specs.declared.parts.Parts.{Parts}
 use Rattle.laws_client.proofs.questions.Choices.{ChoosesWell, chooses_well}
 
@@ -180,46 +181,46 @@ module _ (names : List (List ℕ)) where
   known_asked kinds.Sign s h = h
   known_asked _ s h = tt
 
-module _ {X Q P L C I A R Z D : Type 0} (means : Means X Q P L C I A R Z D) where
-  abbrev pub scheme_ids : Parts X Q C I A R Z D P L → List (List ℕ)
+module _ {T X Q C I A R Z D P L : Type 0} (means : ClientMeaning T X Q C I A R Z D P L) where
+  abbrev pub scheme_ids : Parts T X Q C I A R Z D P L → List (List ℕ)
   scheme_ids parts = map means.names parts.given.schemes.items
 
   -- no entry changes what a client was given
-  same_given : (old new : Parts X Q C I A R Z D P L) (q : Question) (a : Answer) → Answers means old q a new → new.given ≡ old.given
-  same_given old new (questions.Configure stages.Client settings) a h = ap (λ (parts : Parts X Q C I A R Z D P L). parts.given) h.1.others
-  same_given old new (questions.Configure stages.Operation settings) a h = ap (λ (parts : Parts X Q C I A R Z D P L). parts.given) h.1
-  same_given old new (questions.Configure stages.Final settings) a h = ap (λ (parts : Parts X Q C I A R Z D P L). parts.given) h.1
-  same_given old new (questions.Hook hook view) a h = ap (λ (parts : Parts X Q C I A R Z D P L). parts.given) h.others
-  same_given old new (questions.Serialize input settings) a h = ap (λ (parts : Parts X Q C I A R Z D P L). parts.given) h.1
-  same_given old new (questions.Load request) a h = ap (λ (parts : Parts X Q C I A R Z D P L). parts.given) h.1
-  same_given old new (questions.Initial settings) a h = ap (λ (parts : Parts X Q C I A R Z D P L). parts.given) h.others
-  same_given old new (questions.Start role nanos) a h = ap (λ (parts : Parts X Q C I A R Z D P L). parts.given) h.1
-  same_given old new (questions.Wait role) a h = ap (λ (parts : Parts X Q C I A R Z D P L). parts.given) h.1
-  same_given old new (questions.Choose settings) a h = ap (λ (parts : Parts X Q C I A R Z D P L). parts.given) h.others
-  same_given old new (questions.Endpoint settings identity) a h = ap (λ (parts : Parts X Q C I A R Z D P L). parts.given) h.1
-  same_given old new (questions.Apply settings request endpoint) a h = ap (λ (parts : Parts X Q C I A R Z D P L). parts.given) h.1
-  same_given old new (questions.Sign settings request scheme identity endpoint) a h = ap (λ (parts : Parts X Q C I A R Z D P L). parts.given) h.1
-  same_given old new (questions.Transmit settings request) a h = ap (λ (parts : Parts X Q C I A R Z D P L). parts.given) h.1
-  same_given old new (questions.Stream settings response) a h = ap (λ (parts : Parts X Q C I A R Z D P L). parts.given) h.1
-  same_given old new (questions.Body settings response) a h = ap (λ (parts : Parts X Q C I A R Z D P L). parts.given) h.1
-  same_given old new (questions.Deserialize settings response) a h = ap (λ (parts : Parts X Q C I A R Z D P L). parts.given) h.1
-  same_given old new (questions.Decide settings request response outcome attempt) a h = ap (λ (parts : Parts X Q C I A R Z D P L). parts.given) h.others
-  same_given old new (questions.Abandon abandoned.Choose) a h = ap (λ (parts : Parts X Q C I A R Z D P L). parts.given) h.2
-  same_given old new (questions.Abandon _) a h = ap (λ (parts : Parts X Q C I A R Z D P L). parts.given) h.2
-  same_given old new questions.Park a h = ap (λ (parts : Parts X Q C I A R Z D P L). parts.given) h.2
+  same_given : (old new : Parts T X Q C I A R Z D P L) (q : Question) (a : Answer) → Answers means old q a new → new.given ≡ old.given
+  same_given old new (questions.Configure stages.Client settings) a h = ap (λ (parts : Parts T X Q C I A R Z D P L). parts.given) h.1.others
+  same_given old new (questions.Configure stages.Operation settings) a h = ap (λ (parts : Parts T X Q C I A R Z D P L). parts.given) h.1
+  same_given old new (questions.Configure stages.Final settings) a h = ap (λ (parts : Parts T X Q C I A R Z D P L). parts.given) h.1
+  same_given old new (questions.Hook hook view) a h = ap (λ (parts : Parts T X Q C I A R Z D P L). parts.given) h.others
+  same_given old new (questions.Serialize input settings) a h = ap (λ (parts : Parts T X Q C I A R Z D P L). parts.given) h.1
+  same_given old new (questions.Load request) a h = ap (λ (parts : Parts T X Q C I A R Z D P L). parts.given) h.1
+  same_given old new (questions.Initial settings) a h = ap (λ (parts : Parts T X Q C I A R Z D P L). parts.given) h.others
+  same_given old new (questions.Start role nanos) a h = ap (λ (parts : Parts T X Q C I A R Z D P L). parts.given) h.1
+  same_given old new (questions.Wait role) a h = ap (λ (parts : Parts T X Q C I A R Z D P L). parts.given) h.1
+  same_given old new (questions.Choose settings) a h = ap (λ (parts : Parts T X Q C I A R Z D P L). parts.given) h.others
+  same_given old new (questions.Endpoint settings identity) a h = ap (λ (parts : Parts T X Q C I A R Z D P L). parts.given) h.1
+  same_given old new (questions.Apply settings request endpoint) a h = ap (λ (parts : Parts T X Q C I A R Z D P L). parts.given) h.1
+  same_given old new (questions.Sign settings request scheme identity endpoint) a h = ap (λ (parts : Parts T X Q C I A R Z D P L). parts.given) h.1
+  same_given old new (questions.Transmit settings request) a h = ap (λ (parts : Parts T X Q C I A R Z D P L). parts.given) h.1
+  same_given old new (questions.Stream settings response) a h = ap (λ (parts : Parts T X Q C I A R Z D P L). parts.given) h.1
+  same_given old new (questions.Body settings response) a h = ap (λ (parts : Parts T X Q C I A R Z D P L). parts.given) h.1
+  same_given old new (questions.Deserialize settings response) a h = ap (λ (parts : Parts T X Q C I A R Z D P L). parts.given) h.1
+  same_given old new (questions.Decide settings request response outcome attempt) a h = ap (λ (parts : Parts T X Q C I A R Z D P L). parts.given) h.others
+  same_given old new (questions.Abandon abandoned.Choose) a h = ap (λ (parts : Parts T X Q C I A R Z D P L). parts.given) h.2
+  same_given old new (questions.Abandon _) a h = ap (λ (parts : Parts T X Q C I A R Z D P L). parts.given) h.2
+  same_given old new questions.Park a h = ap (λ (parts : Parts T X Q C I A R Z D P L). parts.given) h.2
 
-  pub given_on : (before : List Entry) (old mid : Parts X Q C I A R Z D P L) → Served means old before mid → mid.given ≡ old.given
-  given_on [] old mid same = ap (λ (parts : Parts X Q C I A R Z D P L). parts.given) same
+  pub given_on : (before : List Entry) (old mid : Parts T X Q C I A R Z D P L) → Served means old before mid → mid.given ≡ old.given
+  given_on [] old mid same = ap (λ (parts : Parts T X Q C I A R Z D P L). parts.given) same
   given_on (x ∷ before) old mid (next, serves, rest) = given_on before next mid rest ∙ same_given old next x.question x.answer serves
 
-  pub chosen_well : (old new : Parts X Q C I A R Z D P L) (q : Question) (a : Answer) → Answers means old q a new → ChosenWell (scheme_ids old) (kind_of_question q) a
+  pub chosen_well : (old new : Parts T X Q C I A R Z D P L) (q : Question) (a : Answer) → Answers means old q a new → ChosenWell (scheme_ids old) (kind_of_question q) a
   chosen_well old new (questions.Choose settings) a h =
       chooses_well means.polls means.names old.given.options old.given.schemes.items old.given.endpoint old.given.time_source settings old.identities.cached old.identities a new.identities h.calls h.chooses
   chosen_well old new _ a h = tt
 
   -- the scheme that stands before the last entry is one of the client's
-  pub known_at : (before : List Entry) (old mid : Parts X Q C I A R Z D P L) (s : State) → Served means old before mid → Known (scheme_ids old) s.context.scheme → Known (scheme_ids mid) (standing s before).context.scheme
-  known_at [] old mid s same h = subst (λ (parts : Parts X Q C I A R Z D P L). Known (scheme_ids parts) s.context.scheme) (sym same) h
+  pub known_at : (before : List Entry) (old mid : Parts T X Q C I A R Z D P L) (s : State) → Served means old before mid → Known (scheme_ids old) s.context.scheme → Known (scheme_ids mid) (standing s before).context.scheme
+  known_at [] old mid s same h = subst (λ (parts : Parts T X Q C I A R Z D P L). Known (scheme_ids parts) s.context.scheme) (sym same) h
   known_at (x ∷ before) old mid s (next, serves, rest) h =
       known_at before next mid (step s x) rest
       (subst (λ ids. Known ids (step s x).context.scheme) (sym (ap (λ g. map means.names g.schemes.items) (same_given old next x.question x.answer serves)))

@@ -1,5 +1,5 @@
 -- The open call stays sound, and its answers have their causes.
-use Rattle.std.proofs.Common.{◌≡◌, ap, refl, subst, sym, Bool, true, false, if◌then◌else◌, List, [], ◌∷◌, Option, None, Some}
+use Rattle.std.proofs.Common.{◌≡◌, ap, subst, sym, Bool, true, false, List, [], ◌∷◌, Option, None, Some}
 use Rattle.client_call.proofs.UploadProofs.{uploads_never_stall}
 use Rattle.client_call.proofs.WholeReads.{bodies_are_whole}
 use Rattle.client_call.specs.Causes.{IsCounted, IsUploaded}
@@ -13,7 +13,8 @@ use Rattle.client_call.specs.declared.reading.Stop.{Stop}
 use Rattle.client_call.specs.declared.reading.Stop.TheVariants as stops
 use Rattle.client_call.specs.declared.upload.Upload.{Upload}
 use Rattle.client_components.specs.Resting.{Exchanges}
-use Rattle.client_components.specs.Serving.{Answers, Means, Served}
+use Rattle.client_components.specs.Meaning.{ClientMeaning}
+use Rattle.client_components.specs.Serving.{Answers, Served}
 use Rattle.client_components.specs.declared.parts.Parts.{Parts}
 use Rattle.outside.specs.Calls.{OutsideCall}
 use Rattle.outside.specs.declared.answers.Sent.{Sent}
@@ -96,13 +97,13 @@ left_sound abandoned.WaitSend old s = s
 left_sound abandoned.WaitRetry old s = s
 left_sound abandoned.WaitLongPoll old s = s
 
-module _ {X Q P L C I A R Z D : Type 0} (means : Means X Q P L C I A R Z D) where
-  abbrev IsSoundIn : Parts X Q C I A R Z D P L → Type 0
+module _ {T X Q C I A R Z D P L : Type 0} (means : ClientMeaning T X Q C I A R Z D P L) where
+  abbrev IsSoundIn : Parts T X Q C I A R Z D P L → Type 0
   IsSoundIn parts = IsSound parts.call
 
   -- the call stays sound
-  stays_sound : (old new : Parts X Q C I A R Z D P L) (q : Question) (a : Answer) → IsSound old.call → Answers means old q a new → IsSound new.call
-  stays_sound old new (questions.Configure stages.Client settings) a s h = idle_so new.call (ap (λ (p : Parts X Q C I A R Z D P L). p.call) h.1.others)
+  stays_sound : (old new : Parts T X Q C I A R Z D P L) (q : Question) (a : Answer) → IsSound old.call → Answers means old q a new → IsSound new.call
+  stays_sound old new (questions.Configure stages.Client settings) a s h = idle_so new.call (ap (λ (p : Parts T X Q C I A R Z D P L). p.call) h.1.others)
   stays_sound old new (questions.Configure stages.Operation settings) a s h = subst IsSoundIn (sym h.1) s
   stays_sound old new (questions.Configure stages.Final settings) a s h = subst IsSoundIn (sym h.1) s
   stays_sound old new (questions.Hook hook view) a s h = subst IsSoundIn (sym h.others) s
@@ -131,7 +132,7 @@ module _ {X Q P L C I A R Z D : Type 0} (means : Means X Q P L C I A R Z D) wher
   stays_sound old new questions.Park a s h = subst IsSoundIn (sym h.2) s
 
   -- and its answers have their causes
-  has_cause : (old new : Parts X Q C I A R Z D P L) (q : Question) (a : Answer) → IsSound old.call → Answers means old q a new → HasCause means old q a new
+  has_cause : (old new : Parts T X Q C I A R Z D P L) (q : Question) (a : Answer) → IsSound old.call → Answers means old q a new → HasCause means old q a new
   has_cause old new (questions.Transmit settings request) a s h = record {
     calls = h.0.calls;
     made = h.0.made;
@@ -144,19 +145,19 @@ module _ {X Q P L C I A R Z D : Type 0} (means : Means X Q P L C I A R Z D) wher
   }
   has_cause old new _ a s h = tt
 
-  served_sound : (old new : Parts X Q C I A R Z D P L) (l : List Entry) → IsSound old.call → Served means old l new → IsSound new.call
+  served_sound : (old new : Parts T X Q C I A R Z D P L) (l : List Entry) → IsSound old.call → Served means old l new → IsSound new.call
   served_sound old new [] s h = subst IsSoundIn (sym h) s
   served_sound old new (e ∷ l) s (mid, serves, rest) = served_sound mid new l (stays_sound old mid e.question e.answer s serves) rest
 
-  all_caused : (old new : Parts X Q C I A R Z D P L) (l : List Entry) → IsSound old.call → Served means old l new → Chained (ServesCaused means) old l new
+  all_caused : (old new : Parts T X Q C I A R Z D P L) (l : List Entry) → IsSound old.call → Served means old l new → Chained (ServesCaused means) old l new
   all_caused old new [] s h = h
   all_caused old new (e ∷ l) s (mid, serves, rest) =
       (mid, (serves, has_cause old mid e.question e.answer s serves), all_caused mid new l (stays_sound old mid e.question e.answer s serves) rest)
 
-  exchanged_sound : (old : Parts X Q C I A R Z D P L) (outside : X) (quota : Q) (new : Parts X Q C I A R Z D P L) (outside_after : X) (quota_after : Q)
+  exchanged_sound : (old : Parts T X Q C I A R Z D P L) (outside : X) (quota : Q) (new : Parts T X Q C I A R Z D P L) (outside_after : X) (quota_after : Q)
       → Exchanges means.makes old outside quota new outside_after quota_after → IsSound new.call
   exchanged_sound old outside quota new outside_after quota_after h =
-      subst IsSoundIn (sym h.parts) (idle_so h.ended.call (ap (λ (p : Parts X Q C I A R Z D P L). p.call) h.ends.others))
+      subst IsSoundIn (sym h.parts) (idle_so h.ended.call (ap (λ (p : Parts T X Q C I A R Z D P L). p.call) h.ends.others))
 
   pub calls_stay_sound : CallsStaySound means
   calls_stay_sound = record {

@@ -17,16 +17,17 @@ use Rattle.smithy_types.specs.declared.notes.DecideNote.{DecideNote}
 use Rattle.smithy_types.specs.declared.notes.RetryAction.{RetryAction}
 use Rattle.client_components.proofs.QuotaLemmas.{held, stays}
 use Rattle.client_components.specs.Retrying.{calls_quota, decided_view}
-use Rattle.client_components.specs.Serving.{Means, Answers, Served}
+use Rattle.client_components.specs.Meaning.{ClientMeaning}
+use Rattle.client_components.specs.Serving.{Answers, Served}
 use Rattle.client_components.specs.declared.parts.Parts.{Parts}
-use Rattle.laws_client.specs.Retries.Telling.{AnswerTells, EntryTells, TellsBuckets}
+use Rattle.laws_client.specs.Retries.Telling.{AnswerTells, DecisionsTellBuckets, EntryTells}
 
 has_note : Answer → Bool
 has_note (answers.Decided choice (Some noted)) = true
 has_note _ = false
 
-module _ {X Q P L C I A R Z D : Type 0} (means : Means X Q P L C I A R Z D) where
-  stays_all : (old new : Parts X Q C I A R Z D P L) (l : List Entry) → Served means old l new → AllByRecursion (λ x. calls_quota x.question ≡ false) l → held means new ≡ held means old
+module _ {T X Q C I A R Z D P L : Type 0} (means : ClientMeaning T X Q C I A R Z D P L) where
+  stays_all : (old new : Parts T X Q C I A R Z D P L) (l : List Entry) → Served means old l new → AllByRecursion (λ x. calls_quota x.question ≡ false) l → held means new ≡ held means old
   stays_all old new [] h none = ap (held means) h
   stays_all old new (e ∷ l) (mid, serves, rest) none = stays_all mid new l rest none.1 ∙ stays means old mid e.question e.answer serves none.0
 
@@ -40,16 +41,16 @@ module _ {X Q P L C I A R Z D : Type 0} (means : Means X Q P L C I A R Z D) wher
       ap (λ (n : DecideNote). n.sums) h.2.decides.3
   decided_tells verdict time_source c old q _ new calls after h = tt
 
-  tells : (old new : Parts X Q C I A R Z D P L) (q : Question) (a : Answer) → Answers means old q a new → EntryTells (held means new) q a
+  tells : (old new : Parts T X Q C I A R Z D P L) (q : Question) (a : Answer) → Answers means old q a new → EntryTells (held means new) q a
   tells old new (questions.Decide settings request response outcome attempt) a h =
       decided_tells _ old.given.time_source (seen_context (decided_view settings request response outcome attempt)) old.strategy old.quota a new.strategy h.calls new.quota h.decided
   tells old new _ a h = tt
 
-  told_at : (old new : Parts X Q C I A R Z D P L) (earlier : List Entry) (e : Entry) (later : List Entry) → Served means old (earlier ++ e ∷ later) new
+  told_at : (old new : Parts T X Q C I A R Z D P L) (earlier : List Entry) (e : Entry) (later : List Entry) → Served means old (earlier ++ e ∷ later) new
       → AllByRecursion (λ x. calls_quota x.question ≡ false) later → EntryTells (held means new) e.question e.answer
   told_at old new [] e later (mid, serves, rest) none =
       subst (λ m. EntryTells m e.question e.answer) (sym (stays_all mid new later rest none)) (tells old mid e.question e.answer serves)
   told_at old new (x ∷ earlier) e later (mid, serves, rest) none = told_at mid new earlier e later rest none
 
-  pub all_told : (old new : Parts X Q C I A R Z D P L) (l : List Entry) → Served means old l new → TellsBuckets (means.quota.meaning new.quota) l
+  pub all_told : DecisionsTellBuckets means
   all_told old new l h = λ earlier e later is none. told_at old new earlier e later (subst (λ x. Served means old x new) is h) none

@@ -10,7 +10,8 @@ use Rattle.client_auth.specs.declared.identities.CachedIdentities.{CachedIdentit
 use Rattle.client_auth.specs.declared.identities.Identities.{Identities}
 use Rattle.client_auth.specs.declared.sources.RegisteredSource.{RegisteredSource}
 use Rattle.client_components.specs.Resting.{Exchanges}
-use Rattle.client_components.specs.Serving.{Means, Served}
+use Rattle.client_components.specs.Meaning.{ClientMeaning}
+use Rattle.client_components.specs.Serving.{Served}
 use Rattle.client_components.specs.declared.parts.Parts.{Parts}
 use Rattle.identity_cell.specs.LazyCache.{Entry as CacheEntry}
 use Rattle.identity_cell.specs.declared.cell.CellState.{CellState}
@@ -66,10 +67,10 @@ pub record SourcePends {A R : Type 0} (names : A → List ℕ) (polls : R → Id
   pub asked : AsksAt polls id place old polled.Pending new open_load asking
   pub calls_are : calls ≡ earlier ++ (asking ++ later)
 
-module _ {X Q P L C I A R Z D : Type 0} (means : Means X Q P L C I A R Z D) where
+module _ {T X Q C I A R Z D P L : Type 0} (means : ClientMeaning T X Q C I A R Z D P L) where
   -- a choice that was answered Pending, with the calls that it made
-  pub record PendsWithSource (old : Parts X Q C I A R Z D P L) (before : List Entry) (settings : StandingLayers) (new : Parts X Q C I A R Z D P L) : Type 0 where
-    pub parts : Parts X Q C I A R Z D P L
+  pub record PendsWithSource (old : Parts T X Q C I A R Z D P L) (before : List Entry) (settings : StandingLayers) (new : Parts T X Q C I A R Z D P L) : Type 0 where
+    pub parts : Parts T X Q C I A R Z D P L
     pub served : Served means old before parts
     pub calls : List OutsideCall
     pub made : Chained means.makes parts.outside calls new.outside
@@ -78,16 +79,16 @@ module _ {X Q P L C I A R Z D : Type 0} (means : Means X Q P L C I A R Z D) wher
   -- so it is of each choice that was answered Pending, where no cell was loading at first but that of an open load
   abbrev pub PendingChoicesAsked : Type 0
   PendingChoicesAsked =
-      (old new : Parts X Q C I A R Z D P L) (before : List Entry) (settings : StandingLayers) → LoadsAlone old.identities
+      (old new : Parts T X Q C I A R Z D P L) (before : List Entry) (settings : StandingLayers) → LoadsAlone old.identities
       → Served means old (before ++ entry (questions.Choose settings) answers.Pending ∷ []) new
       → PendsWithSource old before settings new
 
   -- whatever a client answers, it stays so
   abbrev pub LoadsStayAlone : Type 0
-  LoadsStayAlone = (old new : Parts X Q C I A R Z D P L) (l : List Entry) → LoadsAlone old.identities → Served means old l new → LoadsAlone new.identities
+  LoadsStayAlone = (old new : Parts T X Q C I A R Z D P L) (l : List Entry) → LoadsAlone old.identities → Served means old l new → LoadsAlone new.identities
 
   -- and where outside and quota are exchanged
   abbrev pub ExchangedAlone : Type 0
   ExchangedAlone =
-      (old : Parts X Q C I A R Z D P L) (outside : X) (quota : Q) (new : Parts X Q C I A R Z D P L) (outside_after : X) (quota_after : Q) → LoadsAlone old.identities
+      (old : Parts T X Q C I A R Z D P L) (outside : X) (quota : Q) (new : Parts T X Q C I A R Z D P L) (outside_after : X) (quota_after : Q) → LoadsAlone old.identities
       → Exchanges means.makes old outside quota new outside_after quota_after → LoadsAlone new.identities

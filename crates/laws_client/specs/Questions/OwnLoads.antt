@@ -5,7 +5,8 @@ use Rattle.client_auth.specs.declared.choose.Picked.{Picked}
 use Rattle.client_auth.specs.declared.choose.Picked.TheVariants.{Scheme}
 use Rattle.client_auth.specs.declared.identities.CachedIdentities.{CachedIdentities}
 use Rattle.client_auth.specs.declared.sources.RegisteredSource.{RegisteredSource}
-use Rattle.client_components.specs.Serving.{Means, Served}
+use Rattle.client_components.specs.Meaning.{ClientMeaning}
+use Rattle.client_components.specs.Serving.{Served}
 use Rattle.client_components.specs.declared.parts.Parts.{Parts}
 use Rattle.identity_cell.specs.LazyCache.{cell_at}
 use Rattle.identity_cell.specs.declared.cell.CellState.TheVariants.{Full}
@@ -41,15 +42,15 @@ abbrev pub Stores : Answer → Option CachedIdentities → Type 0
 Stores (answers.Chosen chosen) cached = chosen.note ≡ Some Load → IsStored chosen cached
 Stores _ cached = Unit {0}
 
-module _ {X Q P L C I A R Z D : Type 0} (means : Means X Q P L C I A R Z D) where
+module _ {T X Q C I A R Z D P L : Type 0} (means : ClientMeaning T X Q C I A R Z D P L) where
   -- what a choice picks of a client's options, by these settings
-  abbrev pub PicksFrom : Parts X Q C I A R Z D P L → StandingLayers → Picked → Type 0
+  abbrev pub PicksFrom : Parts T X Q C I A R Z D P L → StandingLayers → Picked → Type 0
   PicksFrom parts settings picked =
       Picks (map means.names parts.given.schemes.items) (map (λ (s : RegisteredSource R). s.id) parts.identities.sources.items) parts.given.options (endpoint_before parts.given.endpoint settings) settings picked
 
   -- a load that is open before the choice is of the scheme that is picked; behind it one is open only where it is pending
-  pub record GoesOnWithOwn (old : Parts X Q C I A R Z D P L) (before : List Entry) (settings : StandingLayers) (a : Answer) (new : Parts X Q C I A R Z D P L) : Type 0 where
-    pub parts : Parts X Q C I A R Z D P L
+  pub record GoesOnWithOwn (old : Parts T X Q C I A R Z D P L) (before : List Entry) (settings : StandingLayers) (a : Answer) (new : Parts T X Q C I A R Z D P L) : Type 0 where
+    pub parts : Parts T X Q C I A R Z D P L
     pub served : Served means old before parts
     pub own : (load : IdentityLoad) (picked : Picked) → current_of parts.identities.cached ≡ Some load → PicksFrom parts settings picked → picked ≡ Scheme load.id
     pub ended : is_pending a ≡ false → current_of new.identities.cached ≡ None
@@ -58,6 +59,6 @@ module _ {X Q P L C I A R Z D : Type 0} (means : Means X Q P L C I A R Z D) wher
   -- so it is of each choice of a list that begins a run, where the client's parts answered the list
   abbrev pub ChoicesGoOnWithOwn : Type 0
   ChoicesGoOnWithOwn =
-      (stop : StopPoint) (p : Payload) (old new : Parts X Q C I A R Z D P L) (before : List Entry) (settings : StandingLayers) (a : Answer) → Begins stop (start p) (before ++ entry (questions.Choose settings) a ∷ [])
+      (stop : StopPoint) (p : Payload) (old new : Parts T X Q C I A R Z D P L) (before : List Entry) (settings : StandingLayers) (a : Answer) → Begins stop (start p) (before ++ entry (questions.Choose settings) a ∷ [])
       → Served means old (before ++ entry (questions.Choose settings) a ∷ []) new
       → GoesOnWithOwn old before settings a new

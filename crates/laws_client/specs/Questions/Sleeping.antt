@@ -2,7 +2,8 @@
 use Rattle.std.specs.Prelude.{◌≡◌, ℕ, Bool, true, false, not, List, [], ◌∷◌, ◌++◌, Option, Some}
 use Rattle.std.specs.List.{AllByRecursion}
 use Rattle.client_call.specs.Sleeping.{sleep_of}
-use Rattle.client_components.specs.Serving.{Means, Served}
+use Rattle.client_components.specs.Meaning.{ClientMeaning}
+use Rattle.client_components.specs.Serving.{Served}
 use Rattle.client_components.specs.declared.parts.Parts.{Parts}
 use Rattle.outside.specs.Calls.{OfTimers}
 use Rattle.run_grammar.specs.Entry.{entry, same_role}
@@ -41,10 +42,10 @@ leaves_sleep role (questions.Start other nanos) = not (same_role role other)
 leaves_sleep role (questions.Abandon given_up) = abandoned_leaves role given_up
 leaves_sleep role _ = true
 
-module _ {X Q P L C I A R Z D : Type 0} (means : Means X Q P L C I A R Z D) where
+module _ {T X Q C I A R Z D P L : Type 0} (means : ClientMeaning T X Q C I A R Z D P L) where
   -- behind these entries the role's sleep is open, and the outside said of it in one call that it is over
-  pub record SaidOver (old : Parts X Q C I A R Z D P L) (role : Role) (before : List Entry) (new : Parts X Q C I A R Z D P L) : Type 0 where
-    pub parts : Parts X Q C I A R Z D P L
+  pub record SaidOver (old : Parts T X Q C I A R Z D P L) (role : Role) (before : List Entry) (new : Parts T X Q C I A R Z D P L) : Type 0 where
+    pub parts : Parts T X Q C I A R Z D P L
     pub served : Served means old before parts
     pub sleep : ℕ
     pub running : sleep_of role parts.sleeps ≡ Some sleep
@@ -54,7 +55,7 @@ module _ {X Q P L C I A R Z D : Type 0} (means : Means X Q P L C I A R Z D) wher
   -- outside said so.
   abbrev pub WaitsAreOverAsTold : Type 0
   WaitsAreOverAsTold =
-      (old new : Parts X Q C I A R Z D P L) (role : Role) (nanos : Option ℕ) (l : List Entry) → means.sleeps old.outside ≡ true
+      (old new : Parts T X Q C I A R Z D P L) (role : Role) (nanos : Option ℕ) (l : List Entry) → means.sleeps old.outside ≡ true
       → Served means old (entry (questions.Start role nanos) answers.Started ∷ (l ++ entry (questions.Wait role) answers.Ready ∷ [])) new
       → AllByRecursion (λ e. leaves_sleep role e.question ≡ true) l
       → SaidOver old role (entry (questions.Start role nanos) answers.Started ∷ l) new

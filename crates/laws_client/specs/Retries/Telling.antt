@@ -12,7 +12,8 @@ use Rattle.run_grammar.specs.declared.question.Question.TheVariants as questions
 use Rattle.smithy_context.specs.StandingLayers.{StandingLayers}
 use Rattle.smithy_types.specs.declared.notes.DecideNote.{DecideNote}
 use Rattle.client_components.specs.Retrying.{calls_quota}
-use Rattle.client_components.specs.Serving.{Means, Served}
+use Rattle.client_components.specs.Meaning.{ClientMeaning}
+use Rattle.client_components.specs.Serving.{Served}
 use Rattle.client_components.specs.declared.parts.Parts.{Parts}
 
 -- the sums of the note are those of the bucket in force
@@ -35,6 +36,6 @@ TellsBuckets m l = (earlier : List Entry) (e : Entry) (later : List Entry) → l
     → AllByRecursion (λ x. calls_quota x.question ≡ false) later → EntryTells m e.question e.answer
 
 -- so it is of the quota behind a served list
-abbrev pub DecisionsTellBuckets : {X Q P L C I A R Z D : Type 0} → Means X Q P L C I A R Z D → Type 0
-DecisionsTellBuckets {X} {Q} {P} {L} {C} {I} {A} {R} {Z} {D} means =
-    (old new : Parts X Q C I A R Z D P L) (l : List Entry) → Served means old l new → TellsBuckets (means.quota.meaning new.quota) l
+abbrev pub DecisionsTellBuckets : {T X Q C I A R Z D P L : Type 0} → ClientMeaning T X Q C I A R Z D P L → Type 0
+DecisionsTellBuckets {T} {X} {Q} {C} {I} {A} {R} {Z} {D} {P} {L} means =
+    (old new : Parts T X Q C I A R Z D P L) (l : List Entry) → Served means old l new → TellsBuckets (means.quota.meaning new.quota) l

@@ -1,5 +1,4 @@
 //! What holds of the questions of all runs. Each law is the contract of a function without a body.
-ghost use Rattle.retry_quota.specs.Calls.{limiters_by};
 ghost use Rattle.laws_client.specs.Questions.Answering.{AbsencesHaveCauses};
 ghost use Rattle.laws_client.specs.Questions.Calling.{CallsStaySound};
 ghost use Rattle.laws_client.specs.Questions.Handing.{PartsAreHanded};
@@ -12,13 +11,7 @@ ghost use Rattle.laws_client.specs.Questions.Loading.{
 ghost use Rattle.laws_client.specs.Questions.OwnLoads.{ChoicesGoOnWithOwn};
 ghost use Rattle.laws_client.specs.Questions.Sleeping.{WaitsAreOverAsTold};
 
-use auth_endpoint::AuthScheme;
-use client_auth::{DeserializeResponse, SerializeRequest};
-use client_retries::TakeOffer;
-use identity_cell::ResolveIdentity;
-use outside::Outside;
-use retry_policy::ClassifyRetry;
-use retry_quota::Quota;
+use client_components::{ClientMeans, ClientTypes};
 
 /// In a list that begins a run each question is handed what its kind works on: a Serialize its
 /// input; a Load and a Transmit a request; an Apply a request and an endpoint; a Sign a request,
@@ -30,187 +23,31 @@ pub fn parts_are_handed()
 /// Where a client's parts answered a list that begins a run, the answer Absent comes of Start
 /// exactly where the client has no sleeps, of Initial and Decide exactly where the standard retry
 /// strategy lacks a setting, and of no other kind.
-pub fn absences_have_causes<
-    X: Outside + Drop,
-    Q: Quota + Drop,
-    C: ClassifyRetry,
-    I: TakeOffer,
-    A: AuthScheme,
-    R: ResolveIdentity,
-    Z: SerializeRequest,
-    D: DeserializeResponse,
->()
-    ensures { AbsencesHaveCauses (record {
-      makes = X.makes;
-      sleeps = X.sleeps;
-      quota = record {
-        meaning = Q.meaning;
-        permit_bucket = Q.permit_bucket;
-        permit_amount = Q.permit_amount;
-        limiters = limiters_by Q.Limiter.at
-            Q.Limiter.after_acquire Q.Limiter.reply_to Q.Limiter.after_update;
-      };
-      says = C.says;
-      chain = record {
-        names = I.names;
-        hooks = I.hooks;
-        runs = I.runs;
-        with_bucket = I.with_bucket;
-        with_verdict = I.with_verdict;
-      };
-      names = A.names;
-      signs = A.signs;
-      polls = R.polls;
-      serializes = Z.serializes;
-      streams = D.streams;
-      deserializes = D.deserializes;
-    }) }
+pub fn absences_have_causes<T: ClientTypes>()
+    ensures { AbsencesHaveCauses ⟦<T as ClientMeans>⟧.means }
 {}
 
 /// Of a client's cache no cell is loading but that of the load that is open: at its start, behind
 /// whatever it answers, and where its outside and quota are exchanged.
-pub fn loads_are_alone<
-    X: Outside + Drop,
-    Q: Quota + Drop,
-    C: ClassifyRetry,
-    I: TakeOffer,
-    A: AuthScheme,
-    R: ResolveIdentity,
-    Z: SerializeRequest,
-    D: DeserializeResponse,
->()
-    ensures begun { BeginsAlone R }
-    ensures served { LoadsStayAlone (record {
-      makes = X.makes;
-      sleeps = X.sleeps;
-      quota = record {
-        meaning = Q.meaning;
-        permit_bucket = Q.permit_bucket;
-        permit_amount = Q.permit_amount;
-        limiters = limiters_by Q.Limiter.at
-            Q.Limiter.after_acquire Q.Limiter.reply_to Q.Limiter.after_update;
-      };
-      says = C.says;
-      chain = record {
-        names = I.names;
-        hooks = I.hooks;
-        runs = I.runs;
-        with_bucket = I.with_bucket;
-        with_verdict = I.with_verdict;
-      };
-      names = A.names;
-      signs = A.signs;
-      polls = R.polls;
-      serializes = Z.serializes;
-      streams = D.streams;
-      deserializes = D.deserializes;
-    }) }
-    ensures exchanged { ExchangedAlone (record {
-      makes = X.makes;
-      sleeps = X.sleeps;
-      quota = record {
-        meaning = Q.meaning;
-        permit_bucket = Q.permit_bucket;
-        permit_amount = Q.permit_amount;
-        limiters = limiters_by Q.Limiter.at
-            Q.Limiter.after_acquire Q.Limiter.reply_to Q.Limiter.after_update;
-      };
-      says = C.says;
-      chain = record {
-        names = I.names;
-        hooks = I.hooks;
-        runs = I.runs;
-        with_bucket = I.with_bucket;
-        with_verdict = I.with_verdict;
-      };
-      names = A.names;
-      signs = A.signs;
-      polls = R.polls;
-      serializes = Z.serializes;
-      streams = D.streams;
-      deserializes = D.deserializes;
-    }) }
+pub fn loads_are_alone<T: ClientTypes>()
+    ensures begun { BeginsAlone T.Resolver }
+    ensures served { LoadsStayAlone ⟦<T as ClientMeans>⟧.means }
+    ensures exchanged { ExchangedAlone ⟦<T as ClientMeans>⟧.means }
 {}
 
 /// Where it is so, each choice that is answered Pending asked the source of the scheme that it
 /// picked, and the source answered Pending: the outside's `resolve`, or the resolver that is
 /// registered.
-pub fn pending_choices_asked<
-    X: Outside + Drop,
-    Q: Quota + Drop,
-    C: ClassifyRetry,
-    I: TakeOffer,
-    A: AuthScheme,
-    R: ResolveIdentity,
-    Z: SerializeRequest,
-    D: DeserializeResponse,
->()
-    ensures { PendingChoicesAsked (record {
-      makes = X.makes;
-      sleeps = X.sleeps;
-      quota = record {
-        meaning = Q.meaning;
-        permit_bucket = Q.permit_bucket;
-        permit_amount = Q.permit_amount;
-        limiters = limiters_by Q.Limiter.at
-            Q.Limiter.after_acquire Q.Limiter.reply_to Q.Limiter.after_update;
-      };
-      says = C.says;
-      chain = record {
-        names = I.names;
-        hooks = I.hooks;
-        runs = I.runs;
-        with_bucket = I.with_bucket;
-        with_verdict = I.with_verdict;
-      };
-      names = A.names;
-      signs = A.signs;
-      polls = R.polls;
-      serializes = Z.serializes;
-      streams = D.streams;
-      deserializes = D.deserializes;
-    }) }
+pub fn pending_choices_asked<T: ClientTypes>()
+    ensures { PendingChoicesAsked ⟦<T as ClientMeans>⟧.means }
 {}
 
 /// In a list that begins a run, where a client's parts answered it, a load that is open before a
 /// choice is of the scheme that the choice picks; behind the choice one is open only where it is
 /// pending. Where a choice's note is Load, its scheme's cell has its identity, where the cache
 /// keeps any cell.
-pub fn choices_go_on_with_their_own_load<
-    X: Outside + Drop,
-    Q: Quota + Drop,
-    C: ClassifyRetry,
-    I: TakeOffer,
-    A: AuthScheme,
-    R: ResolveIdentity,
-    Z: SerializeRequest,
-    D: DeserializeResponse,
->()
-    ensures { ChoicesGoOnWithOwn (record {
-      makes = X.makes;
-      sleeps = X.sleeps;
-      quota = record {
-        meaning = Q.meaning;
-        permit_bucket = Q.permit_bucket;
-        permit_amount = Q.permit_amount;
-        limiters = limiters_by Q.Limiter.at
-            Q.Limiter.after_acquire Q.Limiter.reply_to Q.Limiter.after_update;
-      };
-      says = C.says;
-      chain = record {
-        names = I.names;
-        hooks = I.hooks;
-        runs = I.runs;
-        with_bucket = I.with_bucket;
-        with_verdict = I.with_verdict;
-      };
-      names = A.names;
-      signs = A.signs;
-      polls = R.polls;
-      serializes = Z.serializes;
-      streams = D.streams;
-      deserializes = D.deserializes;
-    }) }
+pub fn choices_go_on_with_their_own_load<T: ClientTypes>()
+    ensures { ChoicesGoOnWithOwn ⟦<T as ClientMeans>⟧.means }
 {}
 
 /// The call that is open at a client's connector is sound (an upload that is watched was read
@@ -218,78 +55,12 @@ pub fn choices_go_on_with_their_own_load<
 /// outside and quota are exchanged, and behind whatever is served. So of each entry that is served:
 /// a Transmit failed only as the connector did in this ask; a Body is Read with the bytes of all
 /// asks, and Pending only where there was no frame or behind 64 frames.
-pub fn calls_stay_sound<
-    X: Outside + Drop,
-    Q: Quota + Drop,
-    C: ClassifyRetry,
-    I: TakeOffer,
-    A: AuthScheme,
-    R: ResolveIdentity,
-    Z: SerializeRequest,
-    D: DeserializeResponse,
->()
-    ensures { CallsStaySound (record {
-      makes = X.makes;
-      sleeps = X.sleeps;
-      quota = record {
-        meaning = Q.meaning;
-        permit_bucket = Q.permit_bucket;
-        permit_amount = Q.permit_amount;
-        limiters = limiters_by Q.Limiter.at
-            Q.Limiter.after_acquire Q.Limiter.reply_to Q.Limiter.after_update;
-      };
-      says = C.says;
-      chain = record {
-        names = I.names;
-        hooks = I.hooks;
-        runs = I.runs;
-        with_bucket = I.with_bucket;
-        with_verdict = I.with_verdict;
-      };
-      names = A.names;
-      signs = A.signs;
-      polls = R.polls;
-      serializes = Z.serializes;
-      streams = D.streams;
-      deserializes = D.deserializes;
-    }) }
+pub fn calls_stay_sound<T: ClientTypes>()
+    ensures { CallsStaySound ⟦<T as ClientMeans>⟧.means }
 {}
 
 /// Over an outside with sleeps: where a Start was answered Started and the role's sleep was left
 /// alone since, a Wait for it is Ready only where the outside said, of that sleep, that it is over.
-pub fn waits_are_over_as_told<
-    X: Outside + Drop,
-    Q: Quota + Drop,
-    C: ClassifyRetry,
-    I: TakeOffer,
-    A: AuthScheme,
-    R: ResolveIdentity,
-    Z: SerializeRequest,
-    D: DeserializeResponse,
->()
-    ensures { WaitsAreOverAsTold (record {
-      makes = X.makes;
-      sleeps = X.sleeps;
-      quota = record {
-        meaning = Q.meaning;
-        permit_bucket = Q.permit_bucket;
-        permit_amount = Q.permit_amount;
-        limiters = limiters_by Q.Limiter.at
-            Q.Limiter.after_acquire Q.Limiter.reply_to Q.Limiter.after_update;
-      };
-      says = C.says;
-      chain = record {
-        names = I.names;
-        hooks = I.hooks;
-        runs = I.runs;
-        with_bucket = I.with_bucket;
-        with_verdict = I.with_verdict;
-      };
-      names = A.names;
-      signs = A.signs;
-      polls = R.polls;
-      serializes = Z.serializes;
-      streams = D.streams;
-      deserializes = D.deserializes;
-    }) }
+pub fn waits_are_over_as_told<T: ClientTypes>()
+    ensures { WaitsAreOverAsTold ⟦<T as ClientMeans>⟧.means }
 {}

@@ -15,7 +15,8 @@ use Rattle.client_components.specs.Calling.{Abandons, Parks, Reads, Starts, Tran
 use Rattle.client_components.specs.Choosing.{Chooses}
 use Rattle.client_components.specs.Resting.{Ends}
 use Rattle.client_components.specs.Retrying.{Begins, Configures, Decides, RunsHook, decided_view, needs_of, sleeps_after, sleeps_ended, verdict_on}
-use Rattle.client_components.specs.Serving.{Answers, Means}
+use Rattle.client_components.specs.Meaning.{ClientMeaning}
+use Rattle.client_components.specs.Serving.{Answers}
 use Rattle.client_components.specs.declared.parts.Parts.{Parts}
 use Rattle.outside.specs.Calls.{Park}
 use Rattle.client_retries.specs.Configuring.{configured}
@@ -55,9 +56,9 @@ use Rattle.laws_determined.specs.Client.Alike.{PartsAlike}
 use Rattle.laws_determined.specs.Client.Answering.{AnswersAreDetermined, ArePlain, over_registers}
 use Rattle.laws_determined.proofs.client.Sleeping.{abandoning_alike, choice_ends, endings_alike, rest_alike, starts_alike, waits_alike, without_alike}
 
-module _ {X P L C I A R Z D : Type 0} (bucket amount : P → ℕ) (limiters : Limiters L) (means : Means X (Registers L) P L C I A R Z D) (plain : ArePlain means) where
+module _ {T X C I A R Z D P L : Type 0} (bucket amount : P → ℕ) (limiters : Limiters L) (means : ClientMeaning T X (Registers L) C I A R Z D P L) (plain : ArePlain means) where
   abbrev Client : Type 0
-  Client = Parts X (Registers L) C I A R Z D P L
+  Client = Parts T X (Registers L) C I A R Z D P L
 
   abbrev Alike : Client → Client → Type 0
   Alike = PartsAlike bucket amount
@@ -349,5 +350,5 @@ module _ {X P L C I A R Z D : Type 0} (bucket amount : P → ℕ) (limiters : Li
   answer_once (questions.Abandon pending) old other new more a b alike s t = abandons old other new more a b alike pending s t
   answer_once questions.Park old other new more a b alike s t = parks old other new more a b alike s t
 
-pub answers_once : {X P L C I A R Z D : Type 0} (bucket amount : P → ℕ) (limiters : Limiters L) (means : Means X (Registers L) P L C I A R Z D) → AnswersAreDetermined bucket amount limiters means
+pub answers_once : {T X C I A R Z D P L : Type 0} (bucket amount : P → ℕ) (limiters : Limiters L) (means : ClientMeaning T X (Registers L) C I A R Z D P L) → AnswersAreDetermined bucket amount limiters means
 answers_once bucket amount limiters means plain question one two after left a b alike s t = answer_once bucket amount limiters means plain question one two after left a b alike s t

@@ -1,6 +1,7 @@
 -- What a client serves of an operation is determined.
 use Rattle.std.proofs.Common.{ℕ, ◌≤◌, length, List, [], ◌∷◌, ◌++◌, ◌≡◌, ◌⊎◌, refl, sym, ap, ◌∙◌, subst, inl, inr, arith, append-nil, append_assoc, length-append}
-use Rattle.client_components.specs.Serving.{Answers, Means, Served}
+use Rattle.client_components.specs.Meaning.{ClientMeaning}
+use Rattle.client_components.specs.Serving.{Answers, Served}
 use Rattle.client_components.specs.declared.parts.Parts.{Parts}
 use Rattle.orchestrate.specs.SpelledRuns.{IsRunWithin}
 use Rattle.retry_quota.specs.Calls.{Limiters}
@@ -68,9 +69,9 @@ module _ (stop : StopPoint) (s : State) where
 
 -- ---- served lists
 
-module _ {X P L C I A R Z D : Type 0} (bucket amount : P → ℕ) (limiters : Limiters L) (means : Means X (Registers L) P L C I A R Z D) (plain : ArePlain means) where
+module _ {T X C I A R Z D P L : Type 0} (bucket amount : P → ℕ) (limiters : Limiters L) (means : ClientMeaning T X (Registers L) C I A R Z D P L) (plain : ArePlain means) where
   abbrev Client : Type 0
-  Client = Parts X (Registers L) C I A R Z D P L
+  Client = Parts T X (Registers L) C I A R Z D P L
 
   abbrev Serves : Client → List Entry → Client → Type 0
   Serves old l new = Served (over_registers bucket amount limiters means) old l new
@@ -95,15 +96,15 @@ module _ {X P L C I A R Z D : Type 0} (bucket amount : P → ℕ) (limiters : Li
         fronts_more e f l m h
         (fronts (k ++ e ∷ []) l m mid away new more met.1 b1 (subst (λ z. Begins stop s ((k ++ z ∷ []) ++ m)) (sym h) c1) rest later)
 
-pub runs_once : {X P L C I A R Z D : Type 0} (bucket amount : P → ℕ) (limiters : Limiters L) (means : Means X (Registers L) P L C I A R Z D) → RunsAreDetermined bucket amount limiters means
+pub runs_once : {T X C I A R Z D P L : Type 0} (bucket amount : P → ℕ) (limiters : Limiters L) (means : ClientMeaning T X (Registers L) C I A R Z D P L) → RunsAreDetermined bucket amount limiters means
 runs_once bucket amount limiters means plain stop begin fuel old other new more l m alike r q s t =
     let same = joined stop begin fuel l m r q
     (fronts bucket amount limiters means plain stop begin [] l m old other new more alike (begins_within stop begin fuel l r) (begins_within stop begin fuel m q) s t) in
     (same, left_alike bucket amount limiters means plain m old other new more alike (subst (λ x. Served (over_registers bucket amount limiters means) old x new) same s) t)
 
-pub exchanges_once : {X P L C I A R Z D : Type 0} (bucket amount : P → ℕ) (limiters : Limiters L) (means : Means X (Registers L) P L C I A R Z D) → ExchangesAreDetermined bucket amount means
-exchanges_once bucket amount limiters means plain old other new more outside out too quota given left also alike quotas s t =
-    let ended = ends_alike bucket amount limiters means plain old other s.ended t.ended answers.Absent answers.Absent alike s.ends t.ends in (
+pub exchanges_once : {T X C I A R Z D P L : Type 0} (bucket amount : P → ℕ) (means : ClientMeaning T X (Registers L) C I A R Z D P L) → ExchangesAreDetermined bucket amount means
+exchanges_once bucket amount means plain old other new more outside out too quota given left also alike quotas s t =
+    let ended = ends_alike bucket amount means.quota.limiters means plain old other s.ended t.ended answers.Absent answers.Absent alike s.ends t.ends in (
       subst (λ x. PartsAlike bucket amount x more) (sym s.parts) (subst (λ x. PartsAlike bucket amount (record (s.ended) { outside = outside; quota = quota }) x) (sym t.parts) (record {
         given = ended.given;
         sleeps = ended.sleeps;

@@ -8,7 +8,7 @@ use Rattle.laws_determined.specs.Calls.Alike.{OpenAlike}
 use Rattle.laws_determined.specs.Retries.Alike.{AreAlike, HoldAlike}
 
 -- the same was given: of what stands in vectors, the same items
-pub record GivenAlike {C A Z D : Type 0} (one two : Given C A Z D) : Type 0 where
+pub record GivenAlike {T X Q C I A R Z D P L : Type 0} (one two : Given T X Q C I A R Z D P L) : Type 0 where
   pub client : one.client ≡ two.client
   pub sleep_impl : one.sleep_impl ≡ two.sleep_impl
   pub time_source : one.time_source ≡ two.time_source
@@ -20,7 +20,7 @@ pub record GivenAlike {C A Z D : Type 0} (one two : Given C A Z D) : Type 0 wher
   pub deserializer : one.deserializer ≡ two.deserializer
   pub may_stream : one.may_stream ≡ two.may_stream
 
-pub record PartsAlike {X C I A R Z D P L : Type 0} (bucket amount : P → ℕ) (one two : Parts X (Registers L) C I A R Z D P L) : Type 0 where
+pub record PartsAlike {T X C I A R Z D P L : Type 0} (bucket amount : P → ℕ) (one two : Parts T X (Registers L) C I A R Z D P L) : Type 0 where
   pub given : GivenAlike one.given two.given
   pub sleeps : one.sleeps ≡ two.sleeps
   pub call : OpenAlike one.call two.call

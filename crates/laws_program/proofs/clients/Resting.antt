@@ -4,7 +4,7 @@ use Rattle.client_auth.specs.Identities.{at_rest}
 use Rattle.client_call.specs.Sleeping.{no_sleeps}
 use Rattle.client_call.specs.declared.call.Call.TheVariants.{Idle}
 use Rattle.client_components.specs.Resting.{Exchanges}
-use Rattle.client_components.specs.Serving.{Means}
+use Rattle.client_components.specs.Meaning.{ClientMeaning}
 use Rattle.client_components.specs.declared.parts.Parts.{Parts}
 use Rattle.retry_quota.specs.Calls.{Limiters}
 use Rattle.retry_quota.specs.Registers.{Registers}
@@ -16,17 +16,17 @@ use Rattle.laws_determined.proofs.client.Answered.{ends_alike}
 use Rattle.laws_determined.proofs.client.Sleeping.{rest_alike}
 use Rattle.laws_determined.specs.Retries.Alike.{AreAlike, HoldAlike}
 
-module _ {X P L C I A R Z D : Type 0} (bucket amount : P → ℕ) where
+module _ {T X C I A R Z D P L : Type 0} (bucket amount : P → ℕ) where
   -- alike but for the outside and the quota that each has of its own, and for what is open
-  pub record RestAlike (one two : Parts X (Registers L) C I A R Z D P L) : Type 0 where
+  pub record RestAlike (one two : Parts T X (Registers L) C I A R Z D P L) : Type 0 where
     pub given : GivenAlike one.given two.given
     pub strategy : HoldAlike bucket amount one.strategy two.strategy
     pub interceptors : one.interceptors.items ≡ two.interceptors.items
     pub identities : IdentitiesAlike one.identities two.identities
 
-module _ {X P L C I A R Z D : Type 0} (bucket amount : P → ℕ) (limiters : Limiters L) (means : Means X (Registers L) P L C I A R Z D) where
+module _ {T X C I A R Z D P L : Type 0} (bucket amount : P → ℕ) (limiters : Limiters L) (means : ClientMeaning T X (Registers L) C I A R Z D P L) where
   abbrev Client : Type 0
-  Client = Parts X (Registers L) C I A R Z D P L
+  Client = Parts T X (Registers L) C I A R Z D P L
 
   -- the client at rest over this outside and this quota
   abbrev over : Client → X → Registers L → Client

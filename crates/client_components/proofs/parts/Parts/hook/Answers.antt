@@ -13,7 +13,7 @@ returns-clause-ok g c =
     let back : take old.len (new ++ drop (length new) old.items) ≡ new = rw many (take-append_seam new _) in
     IfOk-weaker c.hook.result _ _ (λ a h. record {
       calls = h.0;
-      made = chained_join g.X.Outside.makes _ _ _ _ _ c.end_sleeps.ensures.calls h.1;
+      made = chained_join g.T.Outside.Outside.makes _ _ _ _ _ c.end_sleeps.ensures.calls h.1;
       hooks = rw back h.2;
       others = rw c.end_sleeps.ensures.sleeps refl;
     }) (rw (c.as_slice.ensures.value, c.as_mut_slice.ensures.value) at c.hook.ensures.ok)
@@ -25,7 +25,7 @@ returns-clause-err g c =
     let many : old.len ≡ length new = omega (arith, c.as_mut_slice.ensures.len, c.hook.auto.interceptors) in
     let back : take old.len (new ++ drop (length new) old.items) ≡ new = rw many (take-append_seam new _) in
     on_both c.hook.result c.hook.ensures.outside (rw (c.as_slice.ensures.value, c.as_mut_slice.ensures.value) at c.hook.ensures.err) (λ called stops. record {
-      called = (_, chained_join g.X.Outside.makes _ _ _ _ _ c.end_sleeps.ensures.calls called.1);
+      called = (_, chained_join g.T.Outside.Outside.makes _ _ _ _ _ c.end_sleeps.ensures.calls called.1);
       stops = rw back stops;
       others = rw c.end_sleeps.ensures.sleeps refl;
     })
