@@ -21,10 +21,12 @@ use Rattle.cli_client.specs.declared.report.Report.{Report}
 use Rattle.cli_client.specs.declared.report.Report.TheVariants as reports
 
 module _ {V W : Type 0} {v : V → Type 0} {w : W → Type 0} (ranked : Classifier ServiceError V v → ℤ)
-    (relates : ServiceWorld (Classifier ServiceError V v) (Slot OwnInterceptor W w) → List Entry → ServiceWorld (Classifier ServiceError V v) (Slot OwnInterceptor W w) → Type 0) where
-  -- The clients are built, and the invocations are made one after another, each over the outside and the quota that the one
-  -- before it left; this is told of them.
-  pub record PlaysScript (report : Report) (script : ClientScript) (text : List ℕ) (outcome : PrintStatus) : Type 0 where
+    (relates : ServiceWorld (Classifier ServiceError V v) (Slot OwnInterceptor W w) → List Entry
+    → ServiceWorld (Classifier ServiceError V v) (Slot OwnInterceptor W w) → Type 0) where
+  -- the clients are built, and the invocations are made one after another,
+  -- each over the outside and the quota that the one before it left; this is told of them
+  pub record PlaysScript (report : Report) (script : ClientScript) (text : List ℕ)
+      (outcome : PrintStatus) : Type 0 where
     pub first : ClientSet (Classifier ServiceError V v) (Slot OwnInterceptor W w)
     pub opened : IsOpened ranked script.buckets script.start script.words script.clients first
     pub last : ClientSet (Classifier ServiceError V v) (Slot OwnInterceptor W w)
@@ -32,7 +34,9 @@ module _ {V W : Type 0} {v : V → Type 0} {w : W → Type 0} (ranked : Classifi
 
 -- what is told of a script's invocations, and what it comes to
 abbrev pub IsToldOf : Report → ClientScript → List ℕ → PrintStatus → Type 0
-IsToldOf report script text outcome = PlaysScript {V = NoClassifier} {W = NoInterceptor} {v = none} {w = none} own_ranked OwnServed report script text outcome
+IsToldOf report script text outcome =
+    PlaysScript {V = NoClassifier} {W = NoInterceptor} {v = none} {w = none} own_ranked OwnServed
+    report script text outcome
 
 -- the print of a script's invocations with the buckets' sums and the number of loads, and what the last one came to
 abbrev pub IsClientRun : ClientScript → List ℕ → PrintStatus → Type 0
@@ -51,8 +55,10 @@ script_says s (refuses refusals.NotBuilt) = ⊥
 
 -- The bytes are a script and it says this of it, or they are none.
 abbrev pub client_says : List ℕ → Said → Type 0
-client_says bytes (prints outcome text) = (s : ClientScript) × IsClientScript bytes s × script_says s (prints outcome text)
-client_says bytes (refuses refusals.TooLarge) = (s : ClientScript) × IsClientScript bytes s × script_says s (refuses refusals.TooLarge)
+client_says bytes (prints outcome text) =
+    (s : ClientScript) × IsClientScript bytes s × script_says s (prints outcome text)
+client_says bytes (refuses refusals.TooLarge) =
+    (s : ClientScript) × IsClientScript bytes s × script_says s (refuses refusals.TooLarge)
 client_says bytes (refuses refusals.BadScript) = (s : ClientScript) → IsClientScript bytes s → ⊥
 client_says bytes (refuses refusals.NotBuilt) = ⊥
 

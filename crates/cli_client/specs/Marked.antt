@@ -4,6 +4,7 @@ use Rattle.json_forms.specs.Prints.{row, num}
 use Rattle.json_print.specs.Print.{line}
 use Rattle.serde_json.specs.Data.{Data, string}
 
+-- the line that tells a moment
 unfoldable pub moment_data : ℕ → Data
 moment_data moment = row (string (codes "at") ∷ num moment ∷ [])
 

@@ -1,5 +1,5 @@
--- What the classifiers and interceptors of the program's clients mean. No client holds a box, so it doesn't matter what a box
--- would say.
+-- What the classifiers and interceptors of the program's clients mean.
+-- No client holds a box, so it doesn't matter what a box would say.
 use Rattle.std.specs.Prelude.{◌≡◌, ◌⊎◌, ℕ, ℤ, pos, Bool, true, List, []}
 use Rattle.cli_client_runs.specs.Means.{ServedBy}
 use Rattle.client_scripted.specs.Service.Service.{kind_of_error}
@@ -9,7 +9,8 @@ use Rattle.client_builder.specs.declared.own_interceptor.OwnInterceptor.{OwnInte
 use Rattle.client_retries.specs.Meanings.{InterceptorMeans}
 use Rattle.retry_policy.specs.Classifying.{modeled_says, status_says, transient_says}
 use Rattle.retry_policy.specs.declared.classify.Classifier.{Classifier}
-use Rattle.retry_policy.specs.declared.classify.Classifier.TheVariants.{HttpStatusCode, ModeledAsRetryable, TransientError, Boxed}
+use Rattle.retry_policy.specs.declared.classify.Classifier.TheVariants.{HttpStatusCode, ModeledAsRetryable}
+use Rattle.retry_policy.specs.declared.classify.Classifier.TheVariants.{TransientError, Boxed}
 use Rattle.run_grammar.specs.declared.answer.Entry.{Entry}
 use Rattle.client_scripted.specs.Clients.{ServiceWorld}
 use Rattle.smithy_base.specs.declared.intercept.Slot.{Slot}
@@ -38,33 +39,46 @@ module _ {V : Type 0} {v : V → Type 0} where
   own_says (Boxed b) context so_far = so_far
 
 module _ {W : Type 0} {w : W → Type 0} where
+  -- what the interceptor in a slot is called
   abbrev pub slot_names : Slot OwnInterceptor W w → List ℕ
   slot_names (slots.Own one) = own_names one
   slot_names (slots.Boxed b) = []
 
+  -- the hooks that the interceptor in a slot overrides
   abbrev pub slot_hooks : Slot OwnInterceptor W w → Hook → Bool
   slot_hooks (slots.Own one) hook = own_hooks one hook
   slot_hooks (slots.Boxed b) hook = true
 
+  -- one of the crate's own interceptors runs, and no box does
   abbrev pub SlotRuns : Slot OwnInterceptor W w → Hook → HookView → HookAnswer → Slot OwnInterceptor W w → Type 0
-  SlotRuns (slots.Own one) hook view answer new = (after : OwnInterceptor) × (new ≡ slots.Own after) × OwnRuns one hook view answer after
+  SlotRuns (slots.Own one) hook view answer new =
+      (after : OwnInterceptor) × (new ≡ slots.Own after) × OwnRuns one hook view answer after
   SlotRuns (slots.Boxed b) hook view answer new = ⊥
 
+  -- the interceptor in a slot with the bucket that it was offered
   abbrev pub slot_with_bucket : Slot OwnInterceptor W w → ℕ → Slot OwnInterceptor W w
   slot_with_bucket (slots.Own one) bucket = slots.Own (own_with_bucket one bucket)
   slot_with_bucket (slots.Boxed b) bucket = slots.Boxed b
 
+  -- the interceptor in a slot with what the classifiers say
   abbrev pub slot_with_verdict : Slot OwnInterceptor W w → RetryAction → Slot OwnInterceptor W w
   slot_with_verdict (slots.Own one) verdict = slots.Own (own_with_verdict one verdict)
   slot_with_verdict (slots.Boxed b) verdict = slots.Boxed b
 
   -- the interceptors' chain
   abbrev pub own_chain : InterceptorMeans (Slot OwnInterceptor W w)
-  own_chain = record { names = slot_names; hooks = slot_hooks; runs = SlotRuns; with_bucket = slot_with_bucket; with_verdict = slot_with_verdict }
+  own_chain = record {
+    names = slot_names;
+    hooks = slot_hooks;
+    runs = SlotRuns;
+    with_bucket = slot_with_bucket;
+    with_verdict = slot_with_verdict;
+  }
 
 module _ {V W : Type 0} {v : V → Type 0} {w : W → Type 0} where
   -- each entry is answered from the client's parts
-  abbrev pub OwnServed : ServiceWorld (Classifier ServiceError V v) (Slot OwnInterceptor W w) → List Entry → ServiceWorld (Classifier ServiceError V v) (Slot OwnInterceptor W w) → Type 0
+  abbrev pub OwnServed : ServiceWorld (Classifier ServiceError V v) (Slot OwnInterceptor W w) → List Entry
+      → ServiceWorld (Classifier ServiceError V v) (Slot OwnInterceptor W w) → Type 0
   OwnServed = ServedBy own_says own_chain
 
 -- ---- there is no box
@@ -77,5 +91,6 @@ NoClassifier = ⊥ ⊎ ⊥
 abbrev pub NoInterceptor : Type 0
 NoInterceptor = ⊥ ⊎ (⊥ ⊎ (⊥ ⊎ (⊥ ⊎ ⊥)))
 
+-- no value is such a box
 abbrev pub none : {N : Type 0} → N → Type 0
 none nobody = ⊥

@@ -33,6 +33,7 @@ outside_at start words = record {
 
 module _ {V W : Type 0} {v : V → Type 0} {w : W → Type 0} (ranked : Classifier ServiceError V v → ℤ) where
   -- the clients are built over the script's buckets, and the outside is at its first moment
-  pub record IsOpened (buckets : List BucketTerms) (start : ℕ) (words : List ℕ) (objects : List ClientObject) (set : ClientSet (Classifier ServiceError V v) (Slot OwnInterceptor W w)) : Type 0 where
+  pub record IsOpened (buckets : List BucketTerms) (start : ℕ) (words : List ℕ) (objects : List ClientObject)
+      (set : ClientSet (Classifier ServiceError V v) (Slot OwnInterceptor W w)) : Type 0 where
     pub clients : AreBuilt ranked (quota_of buckets) objects [] set.clients.items set.quota
     pub outside : set.outside ≡ outside_at start words

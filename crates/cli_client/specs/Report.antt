@@ -20,11 +20,13 @@ use Rattle.cli_client.specs.declared.tally.Tally.{Tally}
 
 -- the counts of a made script, and the sums of its bucket
 unfoldable pub made_data : ℕ → ℕ → Tally → Option Sums → Data
-made_data count seed t sums = row (string (codes "made") ∷ num count ∷ num seed ∷ num t.outputs ∷ num t.errors ∷ num t.calls ∷ null_or sums_data sums ∷ [])
+made_data count seed t sums = row (string (codes "made") ∷ num count ∷ num seed ∷ num t.outputs ∷ num t.errors
+    ∷ num t.calls ∷ null_or sums_data sums ∷ [])
 
 module _ {C I : Type 0} (relates : ServiceWorld C I → List Entry → ServiceWorld C I → Type 0) where
   -- the invocations are counted, and their counts are the text
-  pub record Counts (count seed : ℕ) (old : ClientSet C I) (invocations : List InvocationRecord) (new : ClientSet C I) (text : List ℕ) (outcome : PrintStatus) : Type 0 where
+  pub record Counts (count seed : ℕ) (old : ClientSet C I) (invocations : List InvocationRecord) (new : ClientSet C I)
+      (text : List ℕ) (outcome : PrintStatus) : Type 0 where
     pub counts : Tally
     pub tallies : Tallies relates old invocations counts new
     pub text_is : text ≡ line (made_data count seed counts (option_map sums_of (slice_get new.quota.books 0)))
@@ -33,4 +35,5 @@ module _ {C I : Type 0} (relates : ServiceWorld C I → List Entry → ServiceWo
   -- All invocations are made in their order; the text is their print, or their counts.
   abbrev pub Reports : Report → ClientSet C I → List InvocationRecord → ClientSet C I → List ℕ → PrintStatus → Type 0
   Reports reports.Print old invocations new text outcome = Plays relates old invocations [] new text outcome
-  Reports (reports.Counts count seed) old invocations new text outcome = Counts count seed old invocations new text outcome
+  Reports (reports.Counts count seed) old invocations new text outcome =
+      Counts count seed old invocations new text outcome

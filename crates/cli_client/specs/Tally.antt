@@ -35,14 +35,20 @@ calls_in (r ∷ rs) = length r.log + calls_in rs
 
 module _ {C I : Type 0} (relates : ServiceWorld C I → List Entry → ServiceWorld C I → Type 0) where
   -- One is made, and counted beside the earlier ones.
-  pub record TalliesOne (old : ClientSet C I) (i : InvocationRecord) (earlier t : Tally) (new : ClientSet C I) : Type 0 where
+  pub record TalliesOne (old : ClientSet C I) (i : InvocationRecord) (earlier t : Tally)
+      (new : ClientSet C I) : Type 0 where
     pub log : List Entry
     pub ending : Ending
     pub made : InvokedIn relates old i log ending new
-    pub counted : t ≡ record { outputs = earlier.outputs + cond (is_output ending) 1 0; errors = earlier.errors + cond (is_output ending) 0 1; calls = earlier.calls + length log }
+    pub counted : t ≡ record {
+      outputs = earlier.outputs + cond (is_output ending) 1 0;
+      errors = earlier.errors + cond (is_output ending) 0 1;
+      calls = earlier.calls + length log;
+    }
 
   -- These invocations are made in their order, each over what the one before it left, and counted.
-  pub record Tallies (old : ClientSet C I) (invocations : List InvocationRecord) (t : Tally) (new : ClientSet C I) : Type 0 where
+  pub record Tallies (old : ClientSet C I) (invocations : List InvocationRecord) (t : Tally)
+      (new : ClientSet C I) : Type 0 where
     pub runs : List Ran
     pub made : Chained (Runs relates) old runs new
     pub these : map (λ (r : Ran). r.invocation) runs ≡ invocations

@@ -40,18 +40,25 @@ quota_means = record {
   limiters = limiters_by pace_from after_acquire reply_to after_update;
 }
 
--- the scheme that signs nothing, and those of the service
+-- what a scheme is called: the one that signs nothing, or one of the service
 abbrev pub scheme_names : Scheme ServiceScheme → List ℕ
 scheme_names = elim [ schemes.NoAuth scheme ↦ codes "noAuth" | schemes.Brought scheme ↦ id_of scheme ]
 
+-- what it makes of a request: the one that signs nothing leaves it, one of the service signs it as its own rule says
 abbrev pub scheme_signs : Scheme ServiceScheme → HttpRequest → Identity → Endpoint → Signed → Type 0
-scheme_signs = elim [ schemes.NoAuth scheme ↦ (λ request identity endpoint s. s ≡ signed.Request request) | schemes.Brought scheme ↦ (λ request identity endpoint s. Signs scheme request identity s) ]
+scheme_signs = elim [
+  | schemes.NoAuth scheme ↦ (λ request identity endpoint s. s ≡ signed.Request request)
+  | schemes.Brought scheme ↦ (λ request identity endpoint s. Signs scheme request identity s)
+]
 
 -- a resolver of the program would be nobody's too
-abbrev pub resolver_polls : IdentityResolver NoAuthIdentityResolver → IdentityPoll → IdentityResolver NoAuthIdentityResolver → Type 0
+abbrev pub resolver_polls : IdentityResolver NoAuthIdentityResolver → IdentityPoll
+    → IdentityResolver NoAuthIdentityResolver → Type 0
 resolver_polls = λ old answer new. elim old [
-  | resolvers.NoAuth nobody ↦ (answer ≡ Ready (record { content = []; expiration = None })) × (new ≡ resolvers.NoAuth nobody)
-  | resolvers.Brought resolver ↦ (after : NoAuthIdentityResolver) × (new ≡ resolvers.Brought after) × ((answer ≡ Ready (record { content = []; expiration = None })) × (after ≡ resolver))
+  | resolvers.NoAuth nobody ↦ (answer ≡ Ready (record { content = []; expiration = None }))
+      × (new ≡ resolvers.NoAuth nobody)
+  | resolvers.Brought resolver ↦ (after : NoAuthIdentityResolver) × (new ≡ resolvers.Brought after)
+      × ((answer ≡ Ready (record { content = []; expiration = None })) × (after ≡ resolver))
 ]
 
 -- ---- a client
@@ -75,5 +82,6 @@ module _ {C I : Type 0} where
   }
 
   -- each entry is answered from the client's parts
-  abbrev pub ServedBy : (C → InterceptorContext → RetryAction → RetryAction) → InterceptorMeans I → ServiceWorld C I → List Entry → ServiceWorld C I → Type 0
+  abbrev pub ServedBy : (C → InterceptorContext → RetryAction → RetryAction) → InterceptorMeans I → ServiceWorld C I
+      → List Entry → ServiceWorld C I → Type 0
   ServedBy says chain old log new = Served (client_means says chain) old.parts log new.parts

@@ -9,13 +9,16 @@ use Rattle.serde_json.specs.Data.{Data, string}
 use Rattle.smithy_types.specs.declared.sums.Sums.{Sums}
 use Rattle.json_values.specs.Values.{sums_data}
 
+-- the line before an invocation: its number and that of its client
 unfoldable pub invocation_data : ℕ → ℕ → Data
 invocation_data number client = row (string (codes "invocation") ∷ num number ∷ num client ∷ [])
 
 -- the number of an invocation and that of its client, the entries, and the ending
 unfoldable pub invocation_text : ℕ → ℕ → List Entry → Ending → List ℕ
-invocation_text number client log ending = line (invocation_data number client) ++ entries_text 1 log ++ line (ending_data ending)
+invocation_text number client log ending =
+    line (invocation_data number client) ++ entries_text 1 log ++ line (ending_data ending)
 
+-- a bucket's number and its sums
 unfoldable pub bucket_data : ℕ → Sums → Data
 bucket_data number sums = row (string (codes "bucket") ∷ num number ∷ sums_data sums ∷ [])
 
@@ -24,5 +27,6 @@ unfoldable pub buckets_text : ℕ → List Book → List ℕ
 buckets_text number [] = []
 buckets_text number (b ∷ bs) = line (bucket_data number (sums_of b)) ++ buckets_text (number + 1) bs
 
+-- how many loads were begun
 unfoldable pub loads_data : ℕ → Data
 loads_data loads = row (string (codes "loads") ∷ num loads ∷ [])

@@ -24,7 +24,8 @@ pub record Ran : Type 0 where
 -- the invocations' lines, numbered from here on
 unfoldable pub invocations_text : ℕ → List Ran → List ℕ
 invocations_text number [] = []
-invocations_text number (r ∷ rs) = invocation_text number r.invocation.client r.log r.ending ++ invocations_text (number + 1) rs
+invocations_text number (r ∷ rs) =
+    invocation_text number r.invocation.client r.log r.ending ++ invocations_text (number + 1) rs
 
 -- what the last invocation came to; without one nothing failed
 abbrev pub last_outcome : PrintStatus → List Ran → PrintStatus
@@ -38,18 +39,21 @@ module _ {C I : Type 0} where
 
 module _ {C I : Type 0} (relates : ServiceWorld C I → List Entry → ServiceWorld C I → Type 0) where
   -- one of the clients is invoked over the shared outside and quota, and the others stay
-  pub record InvokedIn (old : ClientSet C I) (i : InvocationRecord) (log : List Entry) (ending : Ending) (new : ClientSet C I) : Type 0 where
+  pub record InvokedIn (old : ClientSet C I) (i : InvocationRecord) (log : List Entry) (ending : Ending)
+      (new : ClientSet C I) : Type 0 where
     pub client : ScriptedClient C I
     pub after : ScriptedClient C I
     pub there : slice_get old.clients.items i.client ≡ Some client
     pub invoked : Invoked relates client old.outside old.quota i log ending after new.outside new.quota
     pub clients : new.clients.items ≡ slice_set old.clients.items i.client after
 
+  -- the same of an invocation that was made, as one step of a list
   abbrev pub Runs : ClientSet C I → Ran → ClientSet C I → Type 0
   Runs old r new = InvokedIn old r.invocation r.log r.ending new
 
   -- One is made, and printed with this number behind what was there.
-  pub record RunsOne (number : ℕ) (old : ClientSet C I) (invocation : InvocationRecord) (before : List ℕ) (new : ClientSet C I) (text : List ℕ) (outcome : PrintStatus) : Type 0 where
+  pub record RunsOne (number : ℕ) (old : ClientSet C I) (invocation : InvocationRecord) (before : List ℕ)
+      (new : ClientSet C I) (text : List ℕ) (outcome : PrintStatus) : Type 0 where
     pub log : List Entry
     pub ending : Ending
     pub made : InvokedIn old invocation log ending new
@@ -57,7 +61,8 @@ module _ {C I : Type 0} (relates : ServiceWorld C I → List Entry → ServiceWo
     pub came : outcome ≡ came_to ending
 
   -- All are made in their order, and printed behind what was there. The last one tells what it came to.
-  pub record RunsAll (old : ClientSet C I) (invocations : List InvocationRecord) (before : List ℕ) (new : ClientSet C I) (text : List ℕ) (outcome : PrintStatus) : Type 0 where
+  pub record RunsAll (old : ClientSet C I) (invocations : List InvocationRecord) (before : List ℕ) (new : ClientSet C I)
+      (text : List ℕ) (outcome : PrintStatus) : Type 0 where
     pub runs : List Ran
     pub made : Chained Runs old runs new
     pub these : map (λ (r : Ran). r.invocation) runs ≡ invocations
@@ -65,7 +70,9 @@ module _ {C I : Type 0} (relates : ServiceWorld C I → List Entry → ServiceWo
     pub came : outcome ≡ last_outcome outcomes.Ok runs
 
   -- The invocations, the sums of all buckets and the number of loads stand behind what was there.
-  pub record Plays (old : ClientSet C I) (invocations : List InvocationRecord) (before : List ℕ) (new : ClientSet C I) (text : List ℕ) (outcome : PrintStatus) : Type 0 where
+  pub record Plays (old : ClientSet C I) (invocations : List InvocationRecord) (before : List ℕ) (new : ClientSet C I)
+      (text : List ℕ) (outcome : PrintStatus) : Type 0 where
     pub printed : List ℕ
     pub runs : RunsAll old invocations before new printed outcome
-    pub text_is : text ≡ printed ++ buckets_text 0 new.quota.books ++ line (loads_data (min (loads_in new.clients.items) (2 ^ 64 - 1)))
+    pub text_is : text
+        ≡ printed ++ buckets_text 0 new.quota.books ++ line (loads_data (min (loads_in new.clients.items) (2 ^ 64 - 1)))

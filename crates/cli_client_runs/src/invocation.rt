@@ -82,8 +82,8 @@ pub fn invoke_noting<C: ClassifyRetry, I: TakeOffer>(
     moments: List<u64>,
 ) -> Result<NotedInvocation<C, I>, OutOfMemory>
     ensures { IfOk result (λ ran. InvokedNoting
-        (ServedBy C.says ⟦<I as InterceptorMeaning>⟧.means) client outside.old quota.old invocation moments ran.log ran.ending ran.client
-        outside.new quota.new ran.moments) }
+        (ServedBy C.says ⟦<I as InterceptorMeaning>⟧.means) client outside.old quota.old
+        invocation moments ran.log ran.ending ran.client outside.new quota.new ran.moments) }
 {
     let InvocationRecord {
         input,

@@ -19,7 +19,13 @@ use Rattle.cli_fleet.specs.declared.work.CallerWork.{CallerWork}
 
 -- what a caller is to do: its invocations over its client, with the script's clock and words
 abbrev pub work_of : ℕ → List ℕ → ℕ → CallerRecord → CallerWork
-work_of start words number c = record { number = number; client = c.client; invocations = c.invocations; start = start; words = words }
+work_of start words number c = record {
+  number = number;
+  client = c.client;
+  invocations = c.invocations;
+  start = start;
+  words = words;
+}
 
 -- the work of these callers, numbered from here on
 abbrev pub works_from : ℕ → List ℕ → ℕ → List CallerRecord → List CallerWork
@@ -32,12 +38,12 @@ pub record Done : Type 0 where
   pub outcome : Option PrintStatus
   pub steps : List Entry
 
+-- a caller did this work at the bucket of this place
 abbrev pub DoneAt : Place → CallerWork → Done → Type 0
 DoneAt place work d = Worked place work d.text d.outcome d.steps
 
--- Each caller does its work over an outside, a client and a limiter of its own, and its pass on the one bucket. There is one
--- legal history of the script's bucket, whose entries are the callers' steps, each once, each caller's in its order; its end
--- and its length are printed behind the callers.
+-- Each caller works over an outside, a client and a limiter of its own, and its pass on the one bucket. This has one
+-- legal history, the callers' steps, each once and in its caller's order; its end and length are printed behind them.
 pub record IsFleetRun (script : FleetScript) (text : List ℕ) (outcome : PrintStatus) : Type 0 where
   pub place : Place
   pub opened : place.opening ≡ opening_of (book_of script.bucket) (length script.callers)
@@ -45,7 +51,9 @@ pub record IsFleetRun (script : FleetScript) (text : List ℕ) (outcome : PrintS
   pub each : Each (DoneAt place) (works_from script.start script.words 0 script.callers) done
   pub history : List Entry
   pub theirs : AreTheirs place.opening (map (λ (d : Done). d.steps) done) history
-  pub text_is : text ≡ callers_text 0 (map (λ (d : Done). d.text) done) ++ left_text (sums_of (end_of (book_of script.bucket) history)) (length history)
+  pub text_is : text
+      ≡ callers_text 0 (map (λ (d : Done). d.text) done)
+      ++ left_text (sums_of (end_of (book_of script.bucket) history)) (length history)
   pub came : outcome ≡ latest outcomes.Ok (map (λ (d : Done). d.outcome) done)
 
 -- what it says of a script: the print of its callers where it is within its limits
@@ -58,6 +66,7 @@ script_says s (refuses refusals.NotBuilt) = ⊥
 -- The bytes are a script and it says this of it, or they are none.
 abbrev pub fleet_says : List ℕ → Said → Type 0
 fleet_says bytes (prints outcome text) = (s : FleetScript) × IsFleetScript bytes s × script_says s (prints outcome text)
-fleet_says bytes (refuses refusals.TooLarge) = (s : FleetScript) × IsFleetScript bytes s × script_says s (refuses refusals.TooLarge)
+fleet_says bytes (refuses refusals.TooLarge) =
+    (s : FleetScript) × IsFleetScript bytes s × script_says s (refuses refusals.TooLarge)
 fleet_says bytes (refuses refusals.BadScript) = (s : FleetScript) → IsFleetScript bytes s → ⊥
 fleet_says bytes (refuses refusals.NotBuilt) = ⊥

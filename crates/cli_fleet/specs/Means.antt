@@ -18,15 +18,17 @@ use Rattle.outside_scripted.specs.declared.scripted_outside.ScriptedOutside.{Scr
 use Rattle.smithy_context.specs.declared.context.InterceptorContext.{InterceptorContext}
 use Rattle.smithy_types.specs.declared.notes.RetryAction.{RetryAction}
 
--- a caller's client, and its parts, over a quota Q with permits P and limiters L
+-- a caller's client over a quota Q with permits P and limiters L
 abbrev pub CallerWorld : (Q P L C I : Type 0) → Type 0
 CallerWorld Q P L C I = ServiceClient ScriptedOutside Q C I P L
 
+-- the parts of such a client
 abbrev pub CallerParts : (Q P L C I : Type 0) → Type 0
 CallerParts Q P L C I = ServiceParts ScriptedOutside Q C I P L
 
 -- the meaning of a client, by what its quota means, what its classifiers say and what its interceptors do
-abbrev pub world_means : {Q P L C I : Type 0} → QuotaMeans Q P L → (C → InterceptorContext → RetryAction → RetryAction) → InterceptorMeans I
+abbrev pub world_means : {Q P L C I : Type 0} → QuotaMeans Q P L
+    → (C → InterceptorContext → RetryAction → RetryAction) → InterceptorMeans I
     → ServiceMeaning ScriptedOutside Q C I P L
 world_means quota says chain = record {
   makes = Makes;

@@ -11,9 +11,11 @@ use Rattle.smithy_types.specs.declared.sums.Sums.{Sums}
 use Rattle.cli_fleet.specs.declared.caller.CallerState.{CallerState}
 use Rattle.cli_fleet.specs.declared.caller.CallerState.TheVariants.{Ready, Ended}
 
+-- the line before a caller: its number
 unfoldable pub caller_data : ℕ → Data
 caller_data number = row (string (codes "caller") ∷ num number ∷ [])
 
+-- how many steps the bucket made
 unfoldable pub history_data : ℕ → Data
 history_data length = row (string (codes "history") ∷ num length ∷ [])
 
@@ -33,6 +35,7 @@ latest before (o ∷ os) = latest (unwrap_or o before) os
 
 -- ---- what is told of a caller
 
+-- its work is over, whether memory ran out or not
 abbrev pub IsEnded : CallerState → Type 0
 IsEnded (Ended told end) = Unit {0}
 IsEnded (Ready work) = ⊥
@@ -56,7 +59,8 @@ outcome_in (Ended (Err error) end) = None
 outcome_in (Ready work) = None
 
 -- one caller more is printed
-pub record TellsOne (number : ℕ) (state : CallerState) (before : PrintStatus) (old new : List ℕ) (came : PrintStatus) : Type 0 where
+pub record TellsOne (number : ℕ) (state : CallerState) (before : PrintStatus) (old new : List ℕ)
+    (came : PrintStatus) : Type 0 where
   pub told : IsTold state
   pub printed : new ≡ old ++ line (caller_data number) ++ text_in state
   pub came_is : came ≡ unwrap_or (outcome_in state) before

@@ -32,6 +32,7 @@ abbrev pub settled_in : ℕ → Step → List history.Entry
 settled_in zero step = record { step = step; reply = Done } ∷ []
 settled_in (suc bucket) step = []
 
+-- the step that a call makes of the one bucket, if it makes one
 abbrev pub step_in : QuotaCall → List history.Entry
 step_in (OnBucket bucket step reply) = record { step = step; reply = reply } ∷ []
 step_in (Settled bucket step) = settled_in bucket step
@@ -40,15 +41,17 @@ step_in (ToldLimiter limiter now throttled) = []
 step_in (FoundBucket partition spec number) = []
 step_in (FoundLimiter partition now number) = []
 
+-- those of these calls, in their order
 abbrev pub steps_in : List QuotaCall → List history.Entry
 steps_in [] = []
 steps_in (c ∷ calls) = step_in c ++ steps_in calls
 
 -- ---- the steps of entries
 
--- The strategy's decision on what was handed, with the verdict, the moment and the word of the note, by the costs and the
--- reward that the bucket has, and with the replies of limiter and bucket that the note's reason shows.
-pub record IsDecision (bucket : Book) (settings : StandingLayers) (outcome : Option Outcome) (attempt : ℕ) (choice : Choice) (note : DecideNote) (held : Option Permit) (d : Decided) : Type 0 where
+-- The strategy's decision on what was handed, with the verdict, the moment and the word of the note, by the costs and
+-- the reward that the bucket has, and with the replies of limiter and bucket that the note's reason shows.
+pub record IsDecision (bucket : Book) (settings : StandingLayers) (outcome : Option Outcome) (attempt : ℕ)
+    (choice : Choice) (note : DecideNote) (held : Option Permit) (d : Decided) : Type 0 where
   pub by : Case
   pub retry : standing_retry settings ≡ Some by.retry
   pub number : standing_bucket settings ≡ Some by.bucket
@@ -67,14 +70,17 @@ pub record IsDecision (bucket : Book) (settings : StandingLayers) (outcome : Opt
   pub reason : note.reason ≡ d.reason
 
 -- a decision with a note makes the steps of its calls, and holds what it says; an answer without one makes none
-abbrev pub AnswerSteps : Book → StandingLayers → Option Outcome → ℕ → Answer → Option Permit → List history.Entry → Option Permit → Type 0
+abbrev pub AnswerSteps : Book → StandingLayers → Option Outcome → ℕ → Answer → Option Permit → List history.Entry
+    → Option Permit → Type 0
 AnswerSteps bucket settings outcome attempt (answers.Decided choice (Some note)) held steps after =
-    (d : Decided) × IsDecision bucket settings outcome attempt choice note held d × (steps ≡ steps_in d.calls) × (after ≡ d.held)
+    (d : Decided) × IsDecision bucket settings outcome attempt choice note held d × (steps ≡ steps_in d.calls)
+    × (after ≡ d.held)
 AnswerSteps bucket settings outcome attempt _ held steps after = (steps ≡ []) × (after ≡ held)
 
 -- only decisions make steps
 abbrev pub EntrySteps : Book → Question → Answer → Option Permit → List history.Entry → Option Permit → Type 0
-EntrySteps bucket (questions.Decide settings request response outcome attempt) a held steps after = AnswerSteps bucket settings outcome attempt a held steps after
+EntrySteps bucket (questions.Decide settings request response outcome attempt) a held steps after =
+    AnswerSteps bucket settings outcome attempt a held steps after
 EntrySteps bucket _ a held steps after = (steps ≡ []) × (after ≡ held)
 
 -- those of a list, one entry after another
@@ -100,7 +106,8 @@ pub record AreOfDecisions (bucket : Book) (runs : List Ran) (steps : List histor
 
 -- so it is of every caller that has done its work
 abbrev pub StepsAreDecisions : Type 0
-StepsAreDecisions = (place : Place) (work : CallerWork) (text : List ℕ) (outcome : Option PrintStatus) (steps : List history.Entry)
+StepsAreDecisions =
+    (place : Place) (work : CallerWork) (text : List ℕ) (outcome : Option PrintStatus) (steps : List history.Entry)
     → (w : Worked place work text outcome steps) → AreOfDecisions place.opening.book w.plays.runs.runs steps
 
 -- no other steps are those of the same runs over such a bucket

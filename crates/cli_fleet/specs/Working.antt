@@ -38,15 +38,19 @@ use Rattle.smithy_types.specs.declared.memory.OutOfMemory.{OutOfMemory}
 -- the service's custom partition, with the one bucket and the caller's own limiter; without a bucket there is none
 abbrev pub caller_partition : List ℕ → Option ℕ → Option RetryPartition
 caller_partition service None = None
-caller_partition service (Some bucket) = Some (record { name = service; custom = Some (record { bucket = 0; limiter = 0 }) })
+caller_partition service (Some bucket) =
+    Some (record { name = service; custom = Some (record { bucket = 0; limiter = 0 }) })
 
+-- that of a script's client, with the bucket of its rules
 abbrev pub partition_for : ClientObject → Option RetryPartition
 partition_for c = caller_partition c.target.service c.rules.bucket
 
 module _ {C I : Type 0} where
   -- The invocations are made over the client, and then its strategy is closed; these steps of the bucket were made.
   pub record PlaysAll (place : Place) (means : ServiceMeaning ScriptedOutside (Caller Pace) C I Permit Pace)
-      (identities : List IdentityRecord) (first : CallerParts (Caller Pace) Permit Pace C I) (invocations : List InvocationRecord) (text : List ℕ) (outcome : Option PrintStatus) (steps : List Entry) : Type 0 where
+      (identities : List IdentityRecord) (first : CallerParts (Caller Pace) Permit Pace C I)
+      (invocations : List InvocationRecord) (text : List ℕ) (outcome : Option PrintStatus)
+      (steps : List Entry) : Type 0 where
     pub last : CallerParts (Caller Pace) Permit Pace C I
     pub runs : RunsAll means identities first invocations [] last text outcome
     pub emptied : RetryStrategy Permit
@@ -55,16 +59,20 @@ module _ {C I : Type 0} where
     pub steps_are : steps ≡ own after.pass.view
 
 module _ {V W : Type 0} {v : V → Type 0} {w : W → Type 0} (ranked : Classifier ServiceError V v → ℤ)
-    (says : Classifier ServiceError V v → InterceptorContext → RetryAction → RetryAction) (chain : InterceptorMeans (Slot OwnInterceptor W w)) where
-  -- The caller's client is built over its own outside at the script's start, its own limiter, and a pass of the bucket that
-  -- has made no step; its invocations are made and printed.
-  pub record WorksSo (place : Place) (work : CallerWork) (text : List ℕ) (outcome : Option PrintStatus) (steps : List Entry) : Type 0 where
+    (says : Classifier ServiceError V v → InterceptorContext → RetryAction → RetryAction)
+    (chain : InterceptorMeans (Slot OwnInterceptor W w)) where
+  -- The caller's client is built over its own outside at the script's start, its own limiter, and a pass of the bucket
+  -- that has made no step; its invocations are made and printed.
+  pub record WorksSo (place : Place) (work : CallerWork) (text : List ℕ) (outcome : Option PrintStatus)
+      (steps : List Entry) : Type 0 where
     pub pass : Known
     pub is_of : IsOf place pass
     pub unused : IsUnused pass.view
     pub first : CallerWorld (Caller Pace) Permit Pace (Classifier ServiceError V v) (Slot OwnInterceptor W w)
-    pub built : IsBuiltFrom ranked (builder_of (partition_for work.client) work.client) (outside_at work.start work.words) (record { pass = pass; limiter = zero_pace }) first
-    pub plays : PlaysAll place (world_means (cell_means place) says chain) (identities_of work.client.auth) first.parts work.invocations text outcome steps
+    pub built : IsBuiltFrom ranked (builder_of (partition_for work.client) work.client)
+        (outside_at work.start work.words) (record { pass = pass; limiter = zero_pace }) first
+    pub plays : PlaysAll place (world_means (cell_means place) says chain) (identities_of work.client.auth) first.parts
+        work.invocations text outcome steps
 
 -- no crate below boxes a classifier,
 abbrev pub NoClassifier : Type 0
@@ -76,7 +84,9 @@ NoInterceptor = ⊥ ⊎ (⊥ ⊎ (⊥ ⊎ (⊥ ⊎ (⊥ ⊎ ⊥))))
 
 -- a caller does its work at the bucket of this place, and makes these steps
 abbrev pub Worked : Place → CallerWork → List ℕ → Option PrintStatus → List Entry → Type 0
-Worked place work text outcome steps = WorksSo {V = NoClassifier} {W = NoInterceptor} {v = none} {w = none} own_ranked own_says own_chain place work text outcome steps
+Worked place work text outcome steps =
+    WorksSo {V = NoClassifier} {W = NoInterceptor} {v = none} {w = none} own_ranked own_says own_chain place work text
+    outcome steps
 
 -- ---- a caller before and after its thread
 

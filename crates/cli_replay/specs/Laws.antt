@@ -23,8 +23,10 @@ is_printed (Shell status) = false
 
 -- A script within its limits is replayed, faults and want of memory aside.
 abbrev pub EachScriptIsReplayed : {K : Type 0} → (K → SinkView) → Type 0
-EachScriptIsReplayed {K} view = (bytes : List ℕ) (s : Script) (ended : Ended) (before after : SourceView) (old new : K) →
-    before.left ≡ Some bytes → length bytes ≤ 16777216 → IsScript bytes s → is_within s ≡ true → is_answer ended ≡ true →
+EachScriptIsReplayed {K} view =
+    (bytes : List ℕ) (s : Script) (ended : Ended) (before after : SourceView) (old new : K) →
+    before.left ≡ Some bytes → length bytes ≤ 16777216 →
+    IsScript bytes s → is_within s ≡ true → is_answer ended ≡ true →
     Served view replay_says ended before after old new → is_printed ended ≡ true
 
 -- What `replay` prints is the print of a whole run, unless the fuel was used up: `check` says Yes of it, or No.
@@ -32,8 +34,11 @@ abbrev pub ReplaysAreReached : Type 0
 ReplaysAreReached = (bytes text : List ℕ) (outcome : PrintStatus) → replay_says bytes (prints outcome text) →
     ((outcome ≡ outcomes.Unfinished → ⊥) → Reach text) × (outcome ≡ outcomes.Unfinished → Reach text → ⊥)
 
--- What `replay` prints is answered by `check`: Yes where it has an output, an error, a stop or a payload of another type, and
--- No where it is Unfinished.
+-- What `replay` prints is answered by `check`: Yes where it has an output, an error, a stop or a payload
+-- of another type, and No where it is Unfinished.
 abbrev pub ReplaysAreChecked : Type 0
-ReplaysAreChecked = (bytes text : List ℕ) (outcome : PrintStatus) (said : Said) → replay_says bytes (prints outcome text) → check_says text said →
-    ((outcome ≡ outcomes.Unfinished → ⊥) → said ≡ prints outcomes.Ok (line_of (codes "yes"))) × (outcome ≡ outcomes.Unfinished → said ≡ prints outcomes.CheckNo (line_of (codes "no")))
+ReplaysAreChecked =
+    (bytes text : List ℕ) (outcome : PrintStatus) (said : Said) →
+    replay_says bytes (prints outcome text) → check_says text said →
+    ((outcome ≡ outcomes.Unfinished → ⊥) → said ≡ prints outcomes.Ok (line_of (codes "yes")))
+    × (outcome ≡ outcomes.Unfinished → said ≡ prints outcomes.CheckNo (line_of (codes "no")))

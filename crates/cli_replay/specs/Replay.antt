@@ -18,10 +18,12 @@ use Rattle.json_print.specs.World.Outcome.{came_to}
 abbrev pub Replays : Script → List Entry → Ending → Type 0
 Replays s log e = Ends s.head [] log e × (left_over : List ScriptAnswer) × Spelled s.answers log left_over
 
--- The text is the print of the script's run and of its ending, and this is what the ending comes to. Each line is data that
--- JSON carries, and the text is of characters.
+-- The text is the print of the script's run and of its ending, and this is what the ending comes to.
+-- Each line is data that JSON carries, and the text is of characters.
 abbrev pub IsReplay : Script → List ℕ → PrintStatus → Type 0
-IsReplay s text outcome = (log : List Entry) × (e : Ending) × Replays s log e × (text ≡ run_text s.head log e) × (outcome ≡ came_to e) × (are_readable (run_data s.head log e) ≡ true) × IsUtf8 (run_text s.head log e)
+IsReplay s text outcome =
+    (log : List Entry) × (e : Ending) × Replays s log e × (text ≡ run_text s.head log e) × (outcome ≡ came_to e)
+    × (are_readable (run_data s.head log e) ≡ true) × IsUtf8 (run_text s.head log e)
 
 -- what it says of a script: the print of its run where it is within its limits
 abbrev pub script_says : Script → Said → Type 0
@@ -32,7 +34,9 @@ script_says s (refuses refusals.NotBuilt) = ⊥
 
 -- The bytes are a script and it says this of it, or they are none. JSON spells what is replayed.
 abbrev pub replay_says : List ℕ → Said → Type 0
-replay_says bytes (prints outcome text) = (s : Script) × IsScript bytes s × (script_spellable s ≡ true) × script_says s (prints outcome text)
-replay_says bytes (refuses refusals.TooLarge) = (s : Script) × IsScript bytes s × script_says s (refuses refusals.TooLarge)
+replay_says bytes (prints outcome text) =
+    (s : Script) × IsScript bytes s × (script_spellable s ≡ true) × script_says s (prints outcome text)
+replay_says bytes (refuses refusals.TooLarge) =
+    (s : Script) × IsScript bytes s × script_says s (refuses refusals.TooLarge)
 replay_says bytes (refuses refusals.BadScript) = (s : Script) → IsScript bytes s → ⊥
 replay_says bytes (refuses refusals.NotBuilt) = ⊥

@@ -10,8 +10,10 @@ abbrev pub until_by : Bool → ℕ → ℕ → ℕ
 until_by true calls until = calls
 until_by false calls until = until
 
--- Each answer of the list of entries, before which so many stand, is what the answers give to its question. In the end these are left, so
--- many entries stand there, and so many up to the last one that took an answer.
+-- Each answer of the list of entries, before which so many stand, is what the answers give to its question.
+-- In the end these are left, so many entries stand there, and so many up to the last one that took an answer.
 abbrev pub Takes : List ScriptAnswer → ℕ → ℕ → List Entry → List ScriptAnswer → ℕ → ℕ → Type 0
 Takes xs n u [] ys m v = (ys ≡ xs) × (m ≡ n) × (v ≡ u)
-Takes xs n u (e ∷ l) ys m v = (taken : Bool) × Replies xs (kind_of e) e.answer taken × Takes (left_by taken xs) (suc n) (until_by taken (suc n) u) l ys m v
+Takes xs n u (e ∷ l) ys m v =
+    (taken : Bool) × Replies xs (kind_of e) e.answer taken
+    × Takes (left_by taken xs) (suc n) (until_by taken (suc n) u) l ys m v

@@ -11,7 +11,8 @@ use Rattle.client_builder.specs.declared.scheme.IdentityResolver.{IdentityResolv
 use Rattle.client_builder.specs.declared.scheme.IdentityResolver.TheVariants.{Brought}
 
 -- no part was given
-abbrev pub no_parts : {I O E A R Z D V W : Type 0} {v : V → Type 0} {w : W → Type 0} → OperationBuilder I O E A R Z D V W v w
+abbrev pub no_parts : {I O E A R Z D V W : Type 0} {v : V → Type 0} {w : W → Type 0}
+    → OperationBuilder I O E A R Z D V W v w
 no_parts = record {
   service_name = None;
   operation_name = None;

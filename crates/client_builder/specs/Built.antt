@@ -1,5 +1,6 @@
 -- What a builder builds.
-use Rattle.std.specs.Prelude.{◌≡◌, ℕ, ℤ, Bool, true, false, ◌||◌, List, [], ◌∷◌, ◌++◌, codes, Option, None, Some, is_some, option_map, option_to_list, unwrap_or}
+use Rattle.std.specs.Prelude.{◌≡◌, ℕ, ℤ, Bool, true, false, ◌||◌, List, [], ◌∷◌, ◌++◌, codes, Option, None, Some}
+use Rattle.std.specs.Prelude.{is_some, option_map, option_to_list, unwrap_or}
 use Rattle.std.specs.List.{flat_map, list_any}
 use Rattle.client_auth.specs.Choosing.{no_load}
 use Rattle.client_auth.specs.Identities.{cached_by}
@@ -25,7 +26,9 @@ use Rattle.client_builder.specs.declared.builder.OperationBuilder.{OperationBuil
 use Rattle.client_builder.specs.declared.builder.StrategyKind.{StrategyKind}
 use Rattle.client_builder.specs.declared.builder.StrategyKind.TheVariants.{Never, Standard}
 use Rattle.client_builder.specs.declared.own_interceptor.OwnInterceptor.{OwnInterceptor}
-use Rattle.client_builder.specs.declared.own_interceptor.OwnInterceptor.TheVariants.{TokenBucket, StalledStream, ConnectionPoisoning, EnforceContentLength}
+use Rattle.client_builder.specs.declared.own_interceptor.OwnInterceptor.TheVariants.{TokenBucket, StalledStream}
+use Rattle.client_builder.specs.declared.own_interceptor.OwnInterceptor.TheVariants.{ConnectionPoisoning}
+use Rattle.client_builder.specs.declared.own_interceptor.OwnInterceptor.TheVariants.{EnforceContentLength}
 use Rattle.client_builder.specs.declared.scheme.IdentityResolver.{IdentityResolver}
 use Rattle.client_builder.specs.declared.scheme.IdentityResolver.TheVariants as resolvers
 use Rattle.client_builder.specs.declared.scheme.Scheme.{Scheme}
@@ -56,6 +59,7 @@ nobody = record { id = codes "noAuth"; source = Resolver (resolvers.NoAuth (reco
 
 -- ---- the crate's own interceptors
 
+-- the interceptor that provides the token bucket, with none offered yet
 abbrev pub provider : {W : Type 0} {w : W → Type 0} → Slot OwnInterceptor W w
 provider = Own (TokenBucket (record { offered = None }))
 
@@ -63,16 +67,20 @@ provider = Own (TokenBucket (record { offered = None }))
 abbrev pub stalled_stream : {W : Type 0} {w : W → Type 0} → Bool → Bool → Slot OwnInterceptor W w
 stalled_stream sleep time = Own (StalledStream (record { sleep = sleep; time = time }))
 
+-- the interceptor that poisons connections, with no verdict yet
 abbrev pub poisoning : {W : Type 0} {w : W → Type 0} → Slot OwnInterceptor W w
 poisoning = Own (ConnectionPoisoning (record { verdict = NoActionIndicated }))
 
+-- the interceptor that holds a response's body to its declared length
 abbrev pub enforcing : {W : Type 0} {w : W → Type 0} → Slot OwnInterceptor W w
 enforcing = Own (EnforceContentLength (record {}))
 
 module _ {I O E A R Z D V W : Type 0} {v : V → Type 0} {w : W → Type 0} where
+  -- a sleep implementation was given, by a setter or by a plugin
   abbrev pub has_sleep : OperationBuilder I O E A R Z D V W v w → Bool
   has_sleep b = b.components.sleep || list_any (λ p. (draft_of p).sleep) b.plugins
 
+  -- a time source was given, by a setter or by a plugin
   abbrev pub has_time : OperationBuilder I O E A R Z D V W v w → Bool
   has_time b = b.components.time || list_any (λ p. (draft_of p).time) b.plugins
 
@@ -80,6 +88,7 @@ module _ {I O E A R Z D V W : Type 0} {v : V → Type 0} {w : W → Type 0} wher
   abbrev pub has_no_auth : OperationBuilder I O E A R Z D V W v w → Bool
   has_no_auth b = b.no_auth || list_any is_no_auth b.plugins
 
+  -- a plugin holds responses to their declared length
   abbrev pub is_enforced : OperationBuilder I O E A R Z D V W v w → Bool
   is_enforced b = list_any is_enforcing b.plugins
 
@@ -109,7 +118,8 @@ module _ {I O E A R Z D V W : Type 0} {v : V → Type 0} {w : W → Type 0} wher
 module _ {T X Q P L I O E A R Z D V W : Type 0} {v : V → Type 0} {w : W → Type 0} where
   -- the client has the builder's parts, the outside and the quota; nothing is open, and nothing was asked
   pub record HasParts (b : OperationBuilder I O E A R Z D V W v w) (outside : X) (quota : Q)
-      (client : RuntimeComponents T X Q (Classifier E V v) (Slot OwnInterceptor W w) (Scheme A) (IdentityResolver R) Z D P L) : Type 0 where
+      (client : RuntimeComponents T X Q (Classifier E V v) (Slot OwnInterceptor W w) (Scheme A)
+      (IdentityResolver R) Z D P L) : Type 0 where
     pub settings : client.parts.given.client ≡ client_layer (unwrap_or b.service_name []) b
     pub sleep_impl : client.parts.given.sleep_impl ≡ has_sleep b
     pub time_source : client.parts.given.time_source ≡ has_time b
@@ -117,7 +127,10 @@ module _ {T X Q P L I O E A R Z D V W : Type 0} {v : V → Type 0} {w : W → Ty
     pub schemes : client.parts.given.schemes.items ≡ schemes_of b
     pub endpoint : Some client.parts.given.endpoint ≡ option_map endpoint_at b.endpoint_url
     pub serializer : Some client.parts.given.serializer ≡ b.serializer
-    pub deserializer : Some (record { deserializer = client.parts.given.deserializer; may_stream = client.parts.given.may_stream }) ≡ b.deserializer
+    pub deserializer : Some (record {
+      deserializer = client.parts.given.deserializer;
+      may_stream = client.parts.given.may_stream;
+    }) ≡ b.deserializer
     pub strategy : Some client.parts.strategy ≡ option_map strategy_of b.strategy
     pub interceptors : client.parts.interceptors.items ≡ chain_of b
     pub sources : client.parts.identities.sources.items ≡ sources_of b
@@ -130,8 +143,10 @@ module _ {T X Q P L I O E A R Z D V W : Type 0} {v : V → Type 0} {w : W → Ty
     pub log : client.log ≡ []
 
   -- and its classifiers stand in the order in which they are asked
-  pub record IsBuiltFrom (ranked : Classifier E V v → ℤ) (b : OperationBuilder I O E A R Z D V W v w) (outside : X) (quota : Q)
-      (client : RuntimeComponents T X Q (Classifier E V v) (Slot OwnInterceptor W w) (Scheme A) (IdentityResolver R) Z D P L) : Type 0 where
+  pub record IsBuiltFrom (ranked : Classifier E V v → ℤ) (b : OperationBuilder I O E A R Z D V W v w) (outside : X)
+      (quota : Q)
+      (client : RuntimeComponents T X Q (Classifier E V v) (Slot OwnInterceptor W w) (Scheme A)
+      (IdentityResolver R) Z D P L) : Type 0 where
     pub parts : HasParts b outside quota client
     pub classifiers : IsByPriority ranked b.classifiers client.parts.given.classifiers.items
 

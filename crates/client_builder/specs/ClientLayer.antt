@@ -1,5 +1,6 @@
 -- What a client's step of the configuration sets.
-use Rattle.std.specs.Prelude.{ℕ, zero, suc, Bool, true, false, List, [], ◌++◌, Option, None, Some, option_map, filter, is_some, nat_eq}
+use Rattle.std.specs.Prelude.{ℕ, zero, suc, Bool, true, false, List, [], ◌++◌, Option, None, Some, option_map, filter}
+use Rattle.std.specs.Prelude.{is_some, nat_eq}
 use Rattle.std.specs.List.{flat_map}
 use Rattle.smithy_context.specs.Layer.{entry, merged, put_entry}
 use Rattle.smithy_context.specs.Setting.{key_of, place}
@@ -11,6 +12,7 @@ use Rattle.client_builder.specs.declared.builder.OperationBuilder.{OperationBuil
 
 -- ---- the order of keys
 
+-- the entry's key has this place in the order of settings
 abbrev pub is_placed : ℕ → LayerEntry → Bool
 is_placed n e = nat_eq (place e.key) n
 

@@ -2,7 +2,9 @@
 use Rattle.std.specs.Prelude.{◌≡◌, ◌||◌, ℕ, Bool, List, Some, codes}
 use Rattle.body_guard.specs.Protection as guards
 use Rattle.client_builder.specs.declared.own_interceptor.OwnInterceptor.{OwnInterceptor}
-use Rattle.client_builder.specs.declared.own_interceptor.OwnInterceptor.TheVariants.{TokenBucket, StalledStream, ConnectionPoisoning, EnforceContentLength}
+use Rattle.client_builder.specs.declared.own_interceptor.OwnInterceptor.TheVariants.{TokenBucket, StalledStream}
+use Rattle.client_builder.specs.declared.own_interceptor.OwnInterceptor.TheVariants.{ConnectionPoisoning}
+use Rattle.client_builder.specs.declared.own_interceptor.OwnInterceptor.TheVariants.{EnforceContentLength}
 use Rattle.retry_policy.specs.Interceptors as retries
 use Rattle.smithy_context.specs.declared.intercept.HookAnswer.{HookAnswer}
 use Rattle.smithy_context.specs.declared.intercept.HookView.{HookView}
@@ -25,10 +27,14 @@ own_hooks (EnforceContentLength one) hook = guards.is_read_before_transmit hook
 
 -- what a run answers; none changes as it runs
 abbrev pub OwnRuns : OwnInterceptor → Hook → HookView → HookAnswer → OwnInterceptor → Type 0
-OwnRuns (TokenBucket one) hook view answer new = (new ≡ TokenBucket one) × (answer ≡ retries.bucket_answer (retries.is_before_retry_loop hook) one.offered)
-OwnRuns (StalledStream one) hook view answer new = (new ≡ StalledStream one) × (answer ≡ guards.protection_answer hook one.sleep one.time view)
-OwnRuns (ConnectionPoisoning one) hook view answer new = (new ≡ ConnectionPoisoning one) × (answer ≡ retries.connection_answer hook one.verdict view)
-OwnRuns (EnforceContentLength one) hook view answer new = (new ≡ EnforceContentLength one) × (answer ≡ guards.enforcing_answer hook view)
+OwnRuns (TokenBucket one) hook view answer new =
+    (new ≡ TokenBucket one) × (answer ≡ retries.bucket_answer (retries.is_before_retry_loop hook) one.offered)
+OwnRuns (StalledStream one) hook view answer new =
+    (new ≡ StalledStream one) × (answer ≡ guards.protection_answer hook one.sleep one.time view)
+OwnRuns (ConnectionPoisoning one) hook view answer new =
+    (new ≡ ConnectionPoisoning one) × (answer ≡ retries.connection_answer hook one.verdict view)
+OwnRuns (EnforceContentLength one) hook view answer new =
+    (new ≡ EnforceContentLength one) × (answer ≡ guards.enforcing_answer hook view)
 
 -- an offered bucket is for the provider, and a verdict for the poisoning of connections
 abbrev pub own_with_bucket : OwnInterceptor → ℕ → OwnInterceptor
@@ -37,6 +43,7 @@ own_with_bucket (StalledStream one) bucket = StalledStream one
 own_with_bucket (ConnectionPoisoning one) bucket = ConnectionPoisoning one
 own_with_bucket (EnforceContentLength one) bucket = EnforceContentLength one
 
+-- what the classifiers say is for the poisoning of connections alone
 abbrev pub own_with_verdict : OwnInterceptor → RetryAction → OwnInterceptor
 own_with_verdict (TokenBucket one) verdict = TokenBucket one
 own_with_verdict (StalledStream one) verdict = StalledStream one

@@ -5,6 +5,7 @@ use Rattle.smithy_context.specs.declared.layer.LayerEntry.{LayerEntry}
 use Rattle.client_builder.specs.declared.plugin.Plugin.{Plugin}
 use Rattle.client_builder.specs.declared.plugin.Plugin.TheVariants.{Static, NoAuth, NoAuthV2, EnforceContentLength}
 
+-- no part of the runtime is given
 abbrev pub no_draft : ComponentsDraft
 no_draft = record { sleep = false; time = false; client = false }
 
@@ -29,12 +30,14 @@ is_no_auth NoAuth = true
 is_no_auth NoAuthV2 = true
 is_no_auth EnforceContentLength = false
 
+-- whether it also adds that scheme to the options
 abbrev pub is_no_auth_v2 : Plugin → Bool
 is_no_auth_v2 (Static layer draft) = false
 is_no_auth_v2 NoAuth = false
 is_no_auth_v2 NoAuthV2 = true
 is_no_auth_v2 EnforceContentLength = false
 
+-- whether it has responses held to their declared length
 abbrev pub is_enforcing : Plugin → Bool
 is_enforcing (Static layer draft) = false
 is_enforcing NoAuth = false

@@ -25,6 +25,7 @@ pub record Prices : Type 0 where
   pub has : ℕ → Bool
   pub cost : ℕ → ErrorKind → ℕ
 
+-- the buckets of a quota, with what each charges
 abbrev pub prices_of : {L : Type 0} → Meaning L → Prices
 prices_of m = record { has = m.has; cost = m.cost }
 
@@ -50,6 +51,7 @@ PaysFor prices settings attempt Yes noted = ⊥
 PaysFor prices settings attempt (Delay nanos) None = ⊥
 PaysFor prices settings attempt (Delay nanos) (Some note) = IsPaid prices settings attempt note
 
+-- a decision pays for its choice, and no other answer owes anything
 abbrev pub AnswerPays : Prices → StandingLayers → ℕ → Answer → Type 0
 AnswerPays prices settings attempt (answers.Decided choice note) = PaysFor prices settings attempt choice note
 AnswerPays prices settings attempt _ = Unit {0}

@@ -12,10 +12,16 @@ module _ {T X Q C I A R Z D P L : Type 0} (makes : X → OutsideCall → X → T
   -- the open load, the open call and the open sleeps are ended, and all else stays
   pub record Ends (old new : Parts T X Q C I A R Z D P L) : Type 0 where
     pub calls : Chained makes old.outside (ending_choice old.identities ++ ending_calls old.sleeps old.call) new.outside
-    pub others : new ≡ record old { sleeps = no_sleeps; call = Idle; identities = at_rest old.identities; outside = new.outside }
+    pub others : new ≡ record old {
+      sleeps = no_sleeps;
+      call = Idle;
+      identities = at_rest old.identities;
+      outside = new.outside;
+    }
 
   -- what is open is ended first, and then outside and quota are exchanged
-  pub record Exchanges (old : Parts T X Q C I A R Z D P L) (outside : X) (quota : Q) (new : Parts T X Q C I A R Z D P L) (outside_after : X) (quota_after : Q) : Type 0 where
+  pub record Exchanges (old : Parts T X Q C I A R Z D P L) (outside : X) (quota : Q) (new : Parts T X Q C I A R Z D P L)
+      (outside_after : X) (quota_after : Q) : Type 0 where
     pub ended : Parts T X Q C I A R Z D P L
     pub ends : Ends old ended
     pub parts : new ≡ record ended { outside = outside; quota = quota }

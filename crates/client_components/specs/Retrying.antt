@@ -32,6 +32,7 @@ use Rattle.smithy_types.specs.declared.notes.RetryAction.TheVariants.{NoActionIn
 use Rattle.client_components.specs.Resting.{Ends}
 use Rattle.client_components.specs.declared.parts.Parts.{Parts}
 
+-- the client's step comes first
 abbrev pub is_first : ConfigureStage → Bool
 is_first Client = true
 is_first Operation = false
@@ -68,8 +69,13 @@ calls_quota (questions.Decide settings request response outcome attempt) = true
 calls_quota _ = false
 
 module _ {T X Q C I A R Z D P L : Type 0} (makes : X → OutsideCall → X → Type 0) where
+  -- whether there is a lazy cache of identities, and the clock and the sleeps that it needs
   abbrev pub needs_of : Parts T X Q C I A R Z D P L → CacheNeeds
-  needs_of parts = record { lazy_cache = has_cache parts.identities; time_source = parts.given.time_source; sleep_impl = parts.given.sleep_impl }
+  needs_of parts = record {
+    lazy_cache = has_cache parts.identities;
+    time_source = parts.given.time_source;
+    sleep_impl = parts.given.sleep_impl;
+  }
 
   -- before the client's step what is open is ended
   abbrev pub Configures : Parts T X Q C I A R Z D P L → ConfigureStage → Answer → Parts T X Q C I A R Z D P L → Type 0
@@ -78,24 +84,39 @@ module _ {T X Q C I A R Z D P L : Type 0} (makes : X → OutsideCall → X → T
   Configures old Final a new = (a ≡ configured Final old.given.client (needs_of old)) × (new ≡ old)
 
   -- the verdict of the client's classifiers on a context
-  abbrev pub verdict_on : (C → InterceptorContext → RetryAction → RetryAction) → Parts T X Q C I A R Z D P L → InterceptorContext → RetryAction
+  abbrev pub verdict_on : (C → InterceptorContext → RetryAction → RetryAction) → Parts T X Q C I A R Z D P L →
+      InterceptorContext → RetryAction
   verdict_on says parts context = verdict_of says context parts.given.classifiers.items NoActionIndicated
 
   -- sleeps end first, and then the chain runs
-  pub record RunsHook (says : C → InterceptorContext → RetryAction → RetryAction) (quota : QuotaMeans Q P L) (chain : InterceptorMeans I) (old : Parts T X Q C I A R Z D P L) (hook : Hook) (view : HookView) (a : Answer) (new : Parts T X Q C I A R Z D P L) : Type 0 where
+  pub record RunsHook (says : C → InterceptorContext → RetryAction → RetryAction) (quota : QuotaMeans Q P L)
+      (chain : InterceptorMeans I) (old : Parts T X Q C I A R Z D P L) (hook : Hook) (view : HookView) (a : Answer)
+      (new : Parts T X Q C I A R Z D P L) : Type 0 where
     pub calls : List OutsideCall
     pub made : Chained makes old.outside (sleeps_ended hook old.sleeps ++ calls) new.outside
-    pub hooks : Hooks quota chain (verdict_on says old (seen_context view)) hook view old.interceptors.items old.quota a new.interceptors.items calls new.quota
-    pub others : new ≡ record old { sleeps = sleeps_after hook old.sleeps; interceptors = new.interceptors; outside = new.outside; quota = new.quota }
+    pub hooks : Hooks quota chain (verdict_on says old (seen_context view)) hook view old.interceptors.items old.quota a
+        new.interceptors.items calls new.quota
+    pub others : new ≡ record old {
+      sleeps = sleeps_after hook old.sleeps;
+      interceptors = new.interceptors;
+      outside = new.outside;
+      quota = new.quota;
+    }
 
-  pub record Begins (quota : QuotaMeans Q P L) (old : Parts T X Q C I A R Z D P L) (settings : StandingLayers) (a : Answer) (new : Parts T X Q C I A R Z D P L) : Type 0 where
+  -- whether an attempt is begun; the strategy, the outside and the quota change
+  pub record Begins (quota : QuotaMeans Q P L) (old : Parts T X Q C I A R Z D P L) (settings : StandingLayers)
+      (a : Answer) (new : Parts T X Q C I A R Z D P L) : Type 0 where
     pub calls : List OutsideCall
     pub made : Chained makes old.outside calls new.outside
     pub begun : Begun quota old.given.time_source settings old.strategy old.quota a new.strategy calls new.quota
     pub others : new ≡ record old { strategy = new.strategy; outside = new.outside; quota = new.quota }
 
-  pub record Decides (says : C → InterceptorContext → RetryAction → RetryAction) (quota : QuotaMeans Q P L) (old : Parts T X Q C I A R Z D P L) (view : HookView) (a : Answer) (new : Parts T X Q C I A R Z D P L) : Type 0 where
+  -- whether a further attempt is made; the strategy, the outside and the quota change
+  pub record Decides (says : C → InterceptorContext → RetryAction → RetryAction) (quota : QuotaMeans Q P L)
+      (old : Parts T X Q C I A R Z D P L) (view : HookView) (a : Answer)
+      (new : Parts T X Q C I A R Z D P L) : Type 0 where
     pub calls : List OutsideCall
     pub made : Chained makes old.outside calls new.outside
-    pub decided : IsDecided quota (verdict_on says old (seen_context view)) old.given.time_source (seen_context view) old.strategy old.quota a new.strategy calls new.quota
+    pub decided : IsDecided quota (verdict_on says old (seen_context view)) old.given.time_source (seen_context view)
+        old.strategy old.quota a new.strategy calls new.quota
     pub others : new ≡ record old { strategy = new.strategy; outside = new.outside; quota = new.quota }

@@ -22,8 +22,10 @@ module _ {T X Q C I A R Z D P L : Type 0} (means : ClientMeaning T X Q C I A R Z
   -- a question of this kind is answered so
   abbrev pub Answers : Parts T X Q C I A R Z D P L → Question → Answer → Parts T X Q C I A R Z D P L → Type 0
   Answers old (questions.Configure stage settings) a new = Configures means.makes old stage a new
-  Answers old (questions.Hook hook view) a new = RunsHook means.makes means.says means.quota means.chain old hook view a new
-  Answers old (questions.Serialize input settings) a new = serializing.Serializes means.serializes old.given.serializer input settings a × (new ≡ old)
+  Answers old (questions.Hook hook view) a new =
+      RunsHook means.makes means.says means.quota means.chain old hook view a new
+  Answers old (questions.Serialize input settings) a new =
+      serializing.Serializes means.serializes old.given.serializer input settings a × (new ≡ old)
   Answers old (questions.Load request) a new = (a ≡ loaded request) × (new ≡ old)
   Answers old (questions.Initial settings) a new = Begins means.makes means.quota old settings a new
   Answers old (questions.Start role nanos) a new = Starts means.makes old role nanos a new
@@ -33,7 +35,8 @@ module _ {T X Q C I A R Z D P L : Type 0} (means : ClientMeaning T X Q C I A R Z
   Answers old (questions.Apply settings request endpoint) a new = Applies request endpoint settings a × (new ≡ old)
   Answers old (questions.Sign settings request scheme identity endpoint) a new =
       signing.Signs means.names means.signs old.given.schemes.items request scheme identity endpoint a × (new ≡ old)
-  Answers old (questions.Transmit settings request) a new = Transmits means.makes means.sleeps old settings request a new
+  Answers old (questions.Transmit settings request) a new =
+      Transmits means.makes means.sleeps old settings request a new
   Answers old (questions.Stream settings response) a new =
       deserializing.Streams means.streams old.given.deserializer old.given.may_stream response settings a × (new ≡ old)
   Answers old (questions.Body settings response) a new = Reads means.makes means.sleeps old settings response a new

@@ -26,7 +26,10 @@ impl<T: ClientTypes> Parts<T> {
     ) -> Result<Answer, OutOfMemory>
         ensures ok { IfOk result (λ a. Starts T.Outside.makes self.old role nanos a self.new) }
         ensures err { OnErr result (CalledOutside T.Outside.makes self.old self.new
-            × (self.new ≡ record self.old { sleeps = with_sleep role None self.old.sleeps; outside = self.new.outside })) }
+            × (self.new ≡ record self.old {
+              sleeps = with_sleep role None self.old.sleeps;
+              outside = self.new.outside;
+            })) }
     {
         start(
             alloc,
@@ -52,8 +55,8 @@ impl<T: ClientTypes> Parts<T> {
         settings: &Settings,
         request: &Option<Shared<HttpRequest>>,
     ) -> Result<Answer, OutOfMemory>
-        ensures ok { IfOk result (λ a. Transmits T.Outside.makes T.Outside.sleeps self.old settings.now request.now a
-            self.new) }
+        ensures ok { IfOk result (λ a. Transmits T.Outside.makes T.Outside.sleeps
+            self.old settings.now request.now a self.new) }
         ensures err { OnErr result (CalledOutside T.Outside.makes self.old self.new
             × (self.new ≡ record self.old { call = self.new.call; outside = self.new.outside })) }
     {
@@ -67,8 +70,8 @@ impl<T: ClientTypes> Parts<T> {
         settings: &Settings,
         response: &Option<Shared<HttpResponse>>,
     ) -> Result<Answer, OutOfMemory>
-        ensures ok { IfOk result (λ a. Reads T.Outside.makes T.Outside.sleeps self.old settings.now response.now a
-            self.new) }
+        ensures ok { IfOk result (λ a. Reads T.Outside.makes T.Outside.sleeps
+            self.old settings.now response.now a self.new) }
         ensures err { OnErr result (CalledOutside T.Outside.makes self.old self.new
             × (self.new ≡ record self.old { call = self.new.call; outside = self.new.outside })) }
     {

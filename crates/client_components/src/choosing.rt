@@ -12,10 +12,13 @@ use std::alloc::Global;
 impl<T: ClientTypes> Parts<T> {
     /// Chooses an auth scheme, and asks for its identity.
     pub fn choose(&mut self, alloc: Global, settings: &Settings) -> Result<Answer, OutOfMemory>
-        ensures ok { IfOk result (λ a. Chooses T.Outside.makes T.Scheme.names T.Resolver.polls self.old settings.now a
-            self.new) }
+        ensures ok { IfOk result (λ a. Chooses T.Outside.makes T.Scheme.names T.Resolver.polls
+            self.old settings.now a self.new) }
         ensures err { OnErr result (CalledOutside T.Outside.makes self.old self.new
-            × (self.new ≡ record self.old { identities = self.new.identities; outside = self.new.outside })) }
+            × (self.new ≡ record self.old {
+              identities = self.new.identities;
+              outside = self.new.outside;
+            })) }
     {
         self.identities.choose(
             alloc,

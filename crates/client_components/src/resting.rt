@@ -17,7 +17,8 @@ impl<T: ClientTypes> Parts<T> {
 
     /// Ends what is open, and exchanges the outside and the quota for these.
     pub fn exchange(&mut self, outside: &mut T::Outside, quota: &mut T::Quota)
-        ensures { Exchanges T.Outside.makes self.old outside.old quota.old self.new outside.new quota.new }
+        ensures { Exchanges T.Outside.makes self.old outside.old quota.old
+            self.new outside.new quota.new }
     {
         self.end_open();
         mem::swap(&mut self.outside, outside);

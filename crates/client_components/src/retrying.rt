@@ -2,8 +2,9 @@
 ghost use Rattle.std.specs.Prelude.{◌≡◌, IfOk, MatchBool, None, OnErr};
 ghost use Rattle.client_components.specs.Lacking.{DecidesNothing, HookStops, InitialStops};
 ghost use Rattle.client_components.specs.Resting.{Ends};
-ghost use Rattle.client_components.specs.Retrying.{Begins, Configures, Decides, RunsHook, decided_view};
-ghost use Rattle.client_components.specs.Retrying.{is_first, sleeps_after, sleeps_ended};
+ghost use Rattle.client_components.specs.Retrying.{Begins, Configures, Decides, RunsHook};
+ghost use Rattle.client_components.specs.Retrying.{decided_view, is_first};
+ghost use Rattle.client_components.specs.Retrying.{sleeps_after, sleeps_ended};
 ghost use Rattle.retry_policy.specs.Verdict.{verdict_of};
 ghost use Rattle.client_retries.specs.Hooking.{seen_context};
 ghost use Rattle.smithy_types.specs.Chain.{Chained};
@@ -25,7 +26,8 @@ impl<T: ClientTypes> Parts<T> {
     /// A step of the configuration. Before the first, what an earlier run left open is ended.
     pub fn configure(&mut self, stage: ConfigureStage) -> Result<Answer, OutOfMemory>
         ensures ok { IfOk result (λ a. Configures T.Outside.makes self.old stage a self.new) }
-        ensures err { OnErr result (MatchBool (is_first stage) (Ends T.Outside.makes self.old self.new)
+        ensures err { OnErr result (MatchBool (is_first stage)
+            (Ends T.Outside.makes self.old self.new)
             (self.new ≡ self.old)) }
     {
         if is_first(stage) {
@@ -70,7 +72,8 @@ impl<T: ClientTypes> Parts<T> {
         ensures ok { IfOk result (λ a. Begins T.Outside.makes
             ⟦<T as ClientMeans>⟧.means.quota self.old
             settings.now a self.new) }
-        ensures err { OnErr result (InitialStops T.Outside.makes ⟦<T as ClientMeans>⟧.means.quota self.old self.new) }
+        ensures err { OnErr result (InitialStops T.Outside.makes
+            ⟦<T as ClientMeans>⟧.means.quota self.old self.new) }
     {
         initial(
             alloc,

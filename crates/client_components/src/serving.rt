@@ -16,7 +16,8 @@ use std::alloc::Global;
 impl<T: ClientTypes> Parts<T> {
     /// Answers one question.
     pub fn answer(&mut self, alloc: Global, question: &Question) -> Result<Answer, OutOfMemory>
-        ensures ok { IfOk result (λ a. Answers ⟦<T as ClientMeans>⟧.means self.old question.now a self.new) }
+        ensures ok { IfOk result (λ a.
+            Answers ⟦<T as ClientMeans>⟧.means self.old question.now a self.new) }
         ensures err { OnErr result (LeftBy T.Outside.makes T.Classifier.says
             ⟦<T as ClientMeans>⟧.means.quota
             ⟦<T as ClientMeans>⟧.means.chain self.old question.now self.new) }

@@ -37,8 +37,8 @@ impl<T: ClientTypes> RuntimeComponents<T> {
 
     /// Ends what is open, and exchanges the outside and the quota for these.
     pub fn swap_parts(&mut self, outside: &mut T::Outside, quota: &mut T::Quota)
-        ensures parts { Exchanges T.Outside.makes self.old.parts outside.old quota.old self.new.parts
-            outside.new quota.new }
+        ensures parts { Exchanges T.Outside.makes self.old.parts outside.old quota.old
+            self.new.parts outside.new quota.new }
         ensures log { self.new.log ≡ self.old.log }
     {
         self.parts.exchange(outside, quota);
@@ -46,7 +46,8 @@ impl<T: ClientTypes> RuntimeComponents<T> {
 
     /// Gives the permit back that the retry strategy holds.
     pub fn close(&mut self)
-        ensures strategy { Closes ⟦<T as ClientMeans>⟧.means.quota self.old.parts.strategy self.old.parts.quota
+        ensures strategy { Closes ⟦<T as ClientMeans>⟧.means.quota
+            self.old.parts.strategy self.old.parts.quota
             self.new.parts.strategy self.new.parts.quota }
         ensures others { self.new ≡ record self.old {
           parts = record self.old.parts

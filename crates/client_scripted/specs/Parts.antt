@@ -1,5 +1,6 @@
 -- The parts of a client that a script describes.
-use Rattle.std.specs.Prelude.{◌≡◌, ℕ, Bool, true, false, List, [], ◌∷◌, ◌++◌, map, Option, None, Some, option_map, option_to_list, find}
+use Rattle.std.specs.Prelude.{◌≡◌, ℕ, Bool, true, false, List, [], ◌∷◌, ◌++◌, map, Option, None, Some, option_map}
+use Rattle.std.specs.Prelude.{option_to_list, find}
 use Rattle.client_auth.specs.declared.sources.IdentitySource.TheVariants.{Outside}
 use Rattle.client_auth.specs.declared.sources.RegisteredSource.{RegisteredSource}
 use Rattle.json_scripts.specs.Client.Schemes.{has_id}
@@ -47,21 +48,25 @@ use Rattle.client_scripted.specs.declared.auth.AuthTerms.{AuthTerms}
 
 -- ---- retries
 
+-- the retry classifier that a script names
 abbrev pub classifier_of : {V : Type 0} {v : V → Type 0} → ClassifierChoice → Classifier ServiceError V v
 classifier_of Modeled = classifiers.ModeledAsRetryable (record { error = record {} })
 classifier_of Transient = classifiers.TransientError (record { error = record {} })
 classifier_of (Status codes) = classifiers.HttpStatusCode (record { codes = codes })
 
+-- the kind of the retry strategy: one that never retries, or the standard one
 abbrev pub strategy_of : RetryChoice → StrategyKind
 strategy_of retries.Never = kinds.Never
 strategy_of (retries.Standard retry) = kinds.Standard
 
+-- the retry configuration that is set; a client that never retries has none
 abbrev pub retry_of : RetryChoice → Option RetryConfig
 retry_of retries.Never = None
 retry_of (retries.Standard retry) = Some retry
 
 -- ---- signing
 
+-- the scheme that signs by this API key
 abbrev pub key_scheme : ApiKeyChoice → ApiKeyAuthScheme
 key_scheme k = record { location = k.location; name = k.name; prefix = k.prefix }
 
@@ -79,6 +84,7 @@ scheme_or_own id (Some choice) = scheme_by choice
 abbrev pub scheme_of_id : List HttpSchemeChoice → List ℕ → ServiceScheme
 scheme_of_id https id = scheme_or_own id (find (has_id id) https)
 
+-- that scheme, as one that the program brings
 abbrev pub scheme_named : List HttpSchemeChoice → List ℕ → Scheme ServiceScheme
 scheme_named https id = Brought (scheme_of_id https id)
 
@@ -86,8 +92,15 @@ scheme_named https id = Brought (scheme_of_id https id)
 abbrev pub source_of : IdentityRecord → RegisteredSource (IdentityResolver NoAuthIdentityResolver)
 source_of i = record { id = i.id; source = Outside }
 
+-- what the builder is given for auth: the options, the schemes, the sources of identities and the cache
 abbrev pub auth_parts_of : AuthChoice → AuthParts
-auth_parts_of auths.NoAuth = record { no_auth = true; options = options.NoAuth; schemes = []; sources = []; cache = NoCache }
+auth_parts_of auths.NoAuth = record {
+  no_auth = true;
+  options = options.NoAuth;
+  schemes = [];
+  sources = [];
+  cache = NoCache;
+}
 auth_parts_of (auths.Schemes a) = record {
   no_auth = false;
   options = options.Listed a.options;
@@ -96,10 +109,12 @@ auth_parts_of (auths.Schemes a) = record {
   cache = a.cache;
 }
 
+-- what is set and loaded for auth: the preference, and the identities of the outside
 abbrev pub auth_terms_of : AuthChoice → AuthTerms
 auth_terms_of auths.NoAuth = record { preference = None; identities = [] }
 auth_terms_of (auths.Schemes a) = record { preference = a.preference; identities = a.identities }
 
+-- the identities that the outside loads for a client
 abbrev pub identities_of : AuthChoice → List IdentityRecord
 identities_of auth = (auth_terms_of auth).identities
 
@@ -113,8 +128,10 @@ with_v2 false l = put_entry l (entry keys.V2 None)
 -- a custom partition, a prefix and a preference, each where there is one, and whether V2 is on
 unfoldable pub plugin_layer : Option RetryPartition → Option (List ℕ) → Option (List (List ℕ)) → Bool → List LayerEntry
 plugin_layer partition prefix preference v2 =
-    with_v2 v2 (putting (option_map set.Preference preference) (putting (option_map set.Prefix prefix) (putting (option_map set.Partition partition) [])))
+    with_v2 v2 (putting (option_map set.Preference preference)
+    (putting (option_map set.Prefix prefix) (putting (option_map set.Partition partition) [])))
 
+-- a plugin that sets the layer, and one that enforces the length where that is wanted
 abbrev pub plugins_of : List LayerEntry → Bool → List Plugin
 plugins_of layer enforce = Static layer no_draft ∷ option_to_list (wanted enforce EnforceContentLength)
 
@@ -125,4 +142,5 @@ abbrev pub PartitionOf : List ℕ → Option ℕ → Registers Pace → Option R
 PartitionOf service None old partition new = (partition ≡ None) × (new ≡ old)
 PartitionOf service (Some bucket) old None new = ⊥
 PartitionOf service (Some bucket) old (Some partition) new =
-    (partition.name ≡ service) × (numbers : CustomPartition) × (partition.custom ≡ Some numbers) × GivesNumbers zero_pace old (Some bucket) None numbers new
+    (partition.name ≡ service) × (numbers : CustomPartition) × (partition.custom ≡ Some numbers)
+    × GivesNumbers zero_pace old (Some bucket) None numbers new

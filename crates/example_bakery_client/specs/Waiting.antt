@@ -1,5 +1,6 @@
 -- What a watch of an order makes of a waiter's calls, and what a poll of it means.
-use Rattle.std.specs.Prelude.{◌≡◌, ◌↔◌, ℕ, true, false, IsSome, IsTrue, Option, List, [], ◌∷◌, Result, Ok, Err, Some, MatchResult, codes}
+use Rattle.std.specs.Prelude.{◌≡◌, ◌↔◌, ℕ, true, false, IsSome, IsTrue, Option, List, [], ◌∷◌, Result, Ok, Err, Some}
+use Rattle.std.specs.Prelude.{MatchResult, codes}
 use Rattle.std.specs.Borrow.{Bor}
 use Rattle.std.proofs.Common.{ap}
 use Rattle.smithy_types.specs.declared.acceptor.AcceptorState.{AcceptorState}
@@ -35,6 +36,7 @@ use Rattle.waiters.specs.declared.timers.WaiterCall.{WaiterCall}
 use Rattle.waiters.specs.declared.timers.WaiterCall.TheVariants.{Timers, Word, Park, Poll}
 use Rattle.example_bakery_client.specs.declared.watching.Watch.{Watch}
 
+-- what the acceptors say of an order that is found: it is ready, or is asked for again
 abbrev pub accepted : OrderState → AcceptorState
 accepted Baking = Retry
 accepted Ready = Success
@@ -47,8 +49,10 @@ Says seen state = MatchResult seen (λ output. state ≡ accepted output.now.sta
 abbrev pub told : Result GetOrderOutput (InvokeError BakeryError) → Answer GetOrderOutput BakeryError
 told (Ok output) = Ok (Some (Ok output))
 told (Err (invoked.Sdk error)) = Ok (Some (Err error))
-told (Err invoked.Unfinished) = Ok (Some (Err (DispatchFailure (record { kind = Other; text = codes "the fuel is used up" }))))
-told (Err (invoked.WrongType payload)) = Ok (Some (Err (DispatchFailure (record { kind = Other; text = codes "an answer of another kind" }))))
+told (Err invoked.Unfinished) =
+    Ok (Some (Err (DispatchFailure (record { kind = Other; text = codes "the fuel is used up" }))))
+told (Err (invoked.WrongType payload)) =
+    Ok (Some (Err (DispatchFailure (record { kind = Other; text = codes "an answer of another kind" }))))
 told (Err invoked.OutOfMemory) = Err (record {})
 
 -- an invocation of `GetOrder` for this order answers so, and its log grows so
@@ -64,7 +68,8 @@ AsksFor input found before log =
 
 -- the calls of the outside that a call of the timers makes: a sleep that is over is given up
 abbrev pub made_for : TimersCall → List OutsideCall
-made_for (timers.Ready sleep true) = calls.OfTimers (timers.Ready sleep true) ∷ calls.OfTimers (timers.GiveUp sleep) ∷ []
+made_for (timers.Ready sleep true) =
+    calls.OfTimers (timers.Ready sleep true) ∷ calls.OfTimers (timers.GiveUp sleep) ∷ []
 made_for (timers.Ready sleep false) = calls.OfTimers (timers.Ready sleep false) ∷ []
 made_for (timers.Now moment) = calls.OfTimers (timers.Now moment) ∷ []
 made_for (timers.Start nanos sleep) = calls.OfTimers (timers.Start nanos sleep) ∷ []
@@ -95,25 +100,30 @@ module _ {Q C I P L : Type 0} where
   Passes old (Poll number _) new = new.unready ≡ old.unready
 
   -- so the sleeps that weren't over are counted, and nothing else
-  abbrev pub sleeps_are_counted : (old : Watch Q C I P L) (call : WaiterCall) (new : Watch Q C I P L) → Passes old call new → Counts old.unready call new.unready
+  abbrev pub sleeps_are_counted : (old : Watch Q C I P L) (call : WaiterCall) (new : Watch Q C I P L)
+      → Passes old call new → Counts old.unready call new.unready
   sleeps_are_counted old (Timers call) new made = made.1
   sleeps_are_counted old (Word word) new made = ap (λ w. w.unready) made.1
   sleeps_are_counted old Park new made = ap (λ w. w.unready) made.1
   sleeps_are_counted old (Poll number _) new made = made
 
   -- and a start answers a sleep
-  abbrev pub sleeps_are_started : (old : Watch Q C I P L) (nanos : ℕ) (sleep : Option ℕ) (new : Watch Q C I P L) → Passes old (Timers (timers.Start nanos (Ok sleep))) new → IsSome sleep ↔ IsTrue true
+  abbrev pub sleeps_are_started : (old : Watch Q C I P L) (nanos : ℕ) (sleep : Option ℕ) (new : Watch Q C I P L)
+      → Passes old (Timers (timers.Start nanos (Ok sleep))) new → IsSome sleep ↔ IsTrue true
   sleeps_are_started old nanos sleep new made = is_started (later (outside_of old).moment nanos) sleep made.0.1.0
 
   -- A poll with this number asks once for the order that is watched, and tells what was answered.
-  pub record Asks (old : Watch Q C I P L) (number : ℕ) (found : Answer GetOrderOutput BakeryError) (new : Watch Q C I P L) : Type 0 where
+  pub record Asks (old : Watch Q C I P L) (number : ℕ) (found : Answer GetOrderOutput BakeryError)
+      (new : Watch Q C I P L) : Type 0 where
     pub asks : AsksFor (record { order = old.order }) found old.client.log new.client.log
     pub others : new ≡ record old { polls = number; client = new.client }
 
   -- A waiter of these delays walked over what is watched, and answered this.
-  pub record WaitsBy (min max max_wait : ℕ) (old : Watch Q C I P L) (fuel : ℕ) (ending : End GetOrderOutput BakeryError) (new : Watch Q C I P L) : Type 0 where
+  pub record WaitsBy (min max max_wait : ℕ) (old : Watch Q C I P L) (fuel : ℕ) (ending : End GetOrderOutput BakeryError)
+      (new : Watch Q C I P L) : Type 0 where
     pub backoff : Backoff
     pub min_is : backoff.min_delay ≡ min
     pub max_is : backoff.max_delay ≡ max
     pub max_wait_is : backoff.max_wait ≡ max_wait
-    pub waits : Waits backoff Says Passes (λ w. w.unready) (λ before number answer after. Asks before.now number answer after.now) old fuel ending new
+    pub waits : Waits backoff Says Passes (λ w. w.unready)
+        (λ before number answer after. Asks before.now number answer after.now) old fuel ending new

@@ -113,7 +113,9 @@ pub fn taken_apart<X: Outside + Drop, Q: Quota + Drop, C: ClassifyRetry, I: Take
         (ending_choice client.parts.identities
         ++ ending_calls client.parts.sleeps client.parts.call)
         result.0 }
-    ensures quota { (emptied : RetryStrategy Q.Permit) × Closes ⟦<Q as QuotaMeaning>⟧.means client.parts.strategy client.parts.quota emptied result.1 }
+    ensures quota { (emptied : RetryStrategy Q.Permit)
+        × Closes ⟦<Q as QuotaMeaning>⟧.means client.parts.strategy client.parts.quota emptied
+        result.1 }
 {
     let mut client = client;
     client.parts.end_open();

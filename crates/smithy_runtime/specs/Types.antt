@@ -1,4 +1,5 @@
--- The types and traits that a client's contracts name: `Types.Payload.{Payload}`, and of an enum `Types.Body.TheVariants.{Bytes}`.
+-- The types and traits that a client's contracts name:
+-- `Types.Payload.{Payload}`, and of an enum `Types.Body.TheVariants.{Bytes}`.
 pub use Rattle.smithy_types.specs.declared.blob.Blob
 pub use Rattle.smithy_types.specs.declared.http.Body
 pub use Rattle.smithy_types.specs.declared.identity.Endpoint

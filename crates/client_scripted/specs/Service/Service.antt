@@ -1,5 +1,6 @@
 -- The requests and responses of the program's service.
-use Rattle.std.specs.Prelude.{◌≡◌, ℕ, Bool, ◌||◌, ◌==◌, nat_lt, if◌then◌else◌, List, [], ◌++◌, Option, None, Some, codes, bytes_eq}
+use Rattle.std.specs.Prelude.{◌≡◌, ℕ, Bool, ◌||◌, ◌==◌, nat_lt, if◌then◌else◌, List, [], ◌++◌, Option, None, Some}
+use Rattle.std.specs.Prelude.{codes, bytes_eq}
 use Rattle.std.specs.Fmt.{decimal}
 use Rattle.smithy_types.specs.declared.fault.Outcome.{Outcome}
 use Rattle.smithy_types.specs.declared.fault.Outcome.TheVariants.{Output, Failed}
@@ -22,9 +23,11 @@ use Rattle.client_scripted.specs.declared.service.scheme.ServiceScheme.TheVarian
 abbrev pub posted : Payload → HttpRequest
 posted input = record { method = codes "POST"; uri = codes "/"; headers = []; body = Bytes input.bytes }
 
+-- a response of this status is an output
 abbrev pub is_output : ℕ → Bool
 is_output status = nat_lt status 400 || (status == 418)
 
+-- the text of an error of this status
 abbrev pub status_text : ℕ → List ℕ
 status_text status = codes "status " ++ decimal status
 
@@ -32,7 +35,10 @@ status_text status = codes "status " ++ decimal status
 abbrev pub read_outcome : HttpResponse → Outcome
 read_outcome response =
     if is_output response.status then Output (record { kind = 1; bytes = body_bytes response.body })
-    else Failed (record { kind = Operation (record { kind = 2; bytes = body_bytes response.body }); text = status_text response.status })
+    else Failed (record {
+      kind = Operation (record { kind = 2; bytes = body_bytes response.body });
+      text = status_text response.status;
+    })
 
 -- the kind that an error's bytes name
 abbrev pub kind_of_error : List ℕ → Option ErrorKind
@@ -48,6 +54,7 @@ kind_of_error bytes =
 abbrev pub scheme_of : List ℕ → ServiceScheme
 scheme_of id = if bytes_eq id (codes "noAuth") then NoAuth else Header id
 
+-- the id of a scheme of the service
 abbrev pub id_of : ServiceScheme → List ℕ
 id_of NoAuth = codes "noAuth"
 id_of (Header id) = id
@@ -58,5 +65,7 @@ id_of (ApiKey scheme) = codes "http-api-key-auth"
 abbrev pub Signs : ServiceScheme → HttpRequest → Identity → Signed → Type 0
 Signs NoAuth request identity signed = signed ≡ Request request
 Signs (Header id) request identity signed = SignsByHeader (codes "authorization") identity.content request signed
-Signs (Bearer scheme) request identity signed = SignsByHeader (codes "authorization") (codes "Bearer " ++ identity.content) request signed
-Signs (ApiKey scheme) request identity signed = SignsByKey scheme.location scheme.name scheme.prefix identity.content request signed
+Signs (Bearer scheme) request identity signed =
+    SignsByHeader (codes "authorization") (codes "Bearer " ++ identity.content) request signed
+Signs (ApiKey scheme) request identity signed =
+    SignsByKey scheme.location scheme.name scheme.prefix identity.content request signed

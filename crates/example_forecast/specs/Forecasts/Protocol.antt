@@ -9,6 +9,7 @@ use Rattle.smithy_runtime.specs.Types.HttpRequest.{HttpRequest}
 use Rattle.smithy_runtime.specs.Types.HttpResponse.{HttpResponse}
 use Rattle.smithy_runtime.specs.Types.Payload.{Payload}
 
+-- the request that posts an input to the operation's path
 abbrev pub posted : Payload → HttpRequest
 posted input = record { method = codes "POST"; uri = codes "/get-forecast"; headers = []; body = Bytes input.bytes }
 
@@ -20,5 +21,9 @@ is_modelled status = (status == 404) || (status == 503)
 abbrev pub read_outcome : HttpResponse → Outcome
 read_outcome response =
     if response.status == 200 then Output (record { kind = 2; bytes = body_bytes response.body })
-    else if is_modelled response.status then Failed (record { kind = fault.Operation (record { kind = 3; bytes = body_bytes response.body }); text = codes "refused by the station" })
+    else if is_modelled response.status
+    then Failed (record {
+      kind = fault.Operation (record { kind = 3; bytes = body_bytes response.body });
+      text = codes "refused by the station";
+    })
     else Failed (record { kind = fault.Response; text = codes "unknown status" })

@@ -38,8 +38,11 @@ pub record HasDecision (n : ℕ) (l : List Entry) : Type 0 where
   pub from : DecidesFrom n decision.question
   pub further : goes_on decision.answer ≡ true
 
+-- a whole run that begins n + 2 attempts decides for a further one, of attempt n + 1 or a later one
 abbrev pub FurtherAttemptsAreDecided : Type 0
-FurtherAttemptsAreDecided = (stop : StopPoint) (p : Payload) (l : List Entry) (n : ℕ) → IsWhole stop (start p) l → attempts_begun l ≡ n + 2 → HasDecision (n + 1) l
+FurtherAttemptsAreDecided =
+    (stop : StopPoint) (p : Payload) (l : List Entry) (n : ℕ) → IsWhole stop (start p) l → attempts_begun l ≡ n + 2
+    → HasDecision (n + 1) l
 
 -- a further attempt is decided of an attempt below n alone
 abbrev pub GoesOnBelow : ℕ → Question → Answer → Type 0
@@ -48,5 +51,6 @@ GoesOnBelow n _ a = Unit {0}
 
 -- a whole run whose decisions go on below n alone begins at most n attempts, or one where n is 0
 abbrev pub AttemptsAreBounded : Type 0
-AttemptsAreBounded = (stop : StopPoint) (p : Payload) (l : List Entry) (n : ℕ) → IsWhole stop (start p) l → length l < 2 ^ 64
+AttemptsAreBounded =
+    (stop : StopPoint) (p : Payload) (l : List Entry) (n : ℕ) → IsWhole stop (start p) l → length l < 2 ^ 64
     → AllByRecursion (λ e. GoesOnBelow n e.question e.answer) l → attempts_begun l ≤ max 1 n

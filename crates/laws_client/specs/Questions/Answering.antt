@@ -32,8 +32,10 @@ module _ {T X Q C I A R Z D P L : Type 0} (means : ClientMeaning T X Q C I A R Z
   -- makes another question Absent
   abbrev pub AbsenceCause : Parts T X Q C I A R Z D P L → Question → Type 0
   AbsenceCause parts (questions.Start role nanos) = parts.given.sleep_impl ≡ false
-  AbsenceCause parts (questions.Initial settings) = StrategyLacks parts.strategy parts.given.time_source (means.quota.meaning parts.quota).has settings
-  AbsenceCause parts (questions.Decide settings request response outcome attempt) = StrategyLacks parts.strategy parts.given.time_source (means.quota.meaning parts.quota).has settings
+  AbsenceCause parts (questions.Initial settings) =
+      StrategyLacks parts.strategy parts.given.time_source (means.quota.meaning parts.quota).has settings
+  AbsenceCause parts (questions.Decide settings request response outcome attempt) =
+      StrategyLacks parts.strategy parts.given.time_source (means.quota.meaning parts.quota).has settings
   AbsenceCause parts _ = ⊥
 
   -- an answer is Absent exactly where there is a cause in the parts, as the entries before it left them; what the
@@ -47,5 +49,6 @@ module _ {T X Q C I A R Z D P L : Type 0} (means : ClientMeaning T X Q C I A R Z
   -- so it is of each entry of a list that begins a run, where the client's parts answered the list
   abbrev pub AbsencesHaveCauses : Type 0
   AbsencesHaveCauses =
-      (stop : StopPoint) (p : Payload) (old new : Parts T X Q C I A R Z D P L) (before : List Entry) (e : Entry) → Begins stop (start p) (before ++ e ∷ []) → Served means old (before ++ e ∷ []) new
+      (stop : StopPoint) (p : Payload) (old new : Parts T X Q C I A R Z D P L) (before : List Entry) (e : Entry)
+      → Begins stop (start p) (before ++ e ∷ []) → Served means old (before ++ e ∷ []) new
       → IsAbsentByCause old before e

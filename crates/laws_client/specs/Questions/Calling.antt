@@ -26,8 +26,8 @@ module _ {T X Q C I A R Z D P L : Type 0} (means : ClientMeaning T X Q C I A R Z
     pub made : Chained means.makes old.outside calls new.outside
     pub told : tells calls
 
-  -- a Transmit failed only as the connector did in this ask; a Body is Read with the bytes of all asks, and Pending only
-  -- where there was no frame or behind 64 frames
+  -- a Transmit failed only as the connector did in this ask; a Body is Read with the bytes of all asks,
+  -- and Pending only where there was no frame or behind 64 frames
   abbrev pub HasCause : Parts T X Q C I A R Z D P L → Question → Answer → Parts T X Q C I A R Z D P L → Type 0
   HasCause old (questions.Transmit settings request) a new = ByTheConnector (SendsWell a new.call) old new
   HasCause old (questions.Body settings response) a new = ByTheConnector (ReadsAll old.call a new.call) old new
@@ -37,11 +37,14 @@ module _ {T X Q C I A R Z D P L : Type 0} (means : ClientMeaning T X Q C I A R Z
   abbrev pub ServesCaused : Parts T X Q C I A R Z D P L → Entry → Parts T X Q C I A R Z D P L → Type 0
   ServesCaused old e new = Serves means old e new × HasCause old e.question e.answer new
 
-  -- The call is sound where nothing is open, so at a client's start and once outside and quota are exchanged; it stays so,
-  -- whatever is served, and each entry that is served has its cause.
+  -- the call is sound where nothing is open, so at a client's start and once outside and quota are exchanged;
+  -- it stays so, whatever is served, and each entry that is served has its cause
   pub record CallsStaySound : Type 0 where
     pub begun : (parts : Parts T X Q C I A R Z D P L) → parts.call ≡ Idle → IsSound parts.call
-    pub exchanged : (old : Parts T X Q C I A R Z D P L) (outside : X) (quota : Q) (new : Parts T X Q C I A R Z D P L) (outside_after : X) (quota_after : Q)
+    pub exchanged : (old : Parts T X Q C I A R Z D P L) (outside : X) (quota : Q) (new : Parts T X Q C I A R Z D P L)
+        (outside_after : X) (quota_after : Q)
         → Exchanges means.makes old outside quota new outside_after quota_after → IsSound new.call
-    pub served : (old new : Parts T X Q C I A R Z D P L) (l : List Entry) → IsSound old.call → Served means old l new → IsSound new.call
-    pub caused : (old new : Parts T X Q C I A R Z D P L) (l : List Entry) → IsSound old.call → Served means old l new → Chained ServesCaused old l new
+    pub served : (old new : Parts T X Q C I A R Z D P L) (l : List Entry) → IsSound old.call → Served means old l new
+        → IsSound new.call
+    pub caused : (old new : Parts T X Q C I A R Z D P L) (l : List Entry) → IsSound old.call → Served means old l new
+        → Chained ServesCaused old l new

@@ -13,7 +13,8 @@ abbrev pub HandsParts : Question → Type 0
 HandsParts (questions.Serialize input settings) = IsSome input
 HandsParts (questions.Load request) = IsSome request
 HandsParts (questions.Apply settings request endpoint) = IsSome request × IsSome endpoint
-HandsParts (questions.Sign settings request scheme identity endpoint) = IsSome request × IsSome scheme × IsSome identity × IsSome endpoint
+HandsParts (questions.Sign settings request scheme identity endpoint) =
+    IsSome request × IsSome scheme × IsSome identity × IsSome endpoint
 HandsParts (questions.Transmit settings request) = IsSome request
 HandsParts (questions.Stream settings response) = IsSome response
 HandsParts (questions.Body settings response) = IsSome response
@@ -22,4 +23,6 @@ HandsParts _ = Unit {0}
 
 -- each question of a list that begins a run
 abbrev pub PartsAreHanded : Type 0
-PartsAreHanded = (stop : StopPoint) (p : Payload) (before : List Entry) (e : Entry) → Begins stop (start p) (before ++ e ∷ []) → HandsParts e.question
+PartsAreHanded =
+    (stop : StopPoint) (p : Payload) (before : List Entry) (e : Entry) → Begins stop (start p) (before ++ e ∷ [])
+    → HandsParts e.question

@@ -30,6 +30,7 @@ use Rattle.smithy_types.specs.declared.identity.Endpoint.{Endpoint}
 
 -- ---- cells
 
+-- a cell waits for a load
 abbrev pub is_loading : {T : Type 0} → CellState T → Bool
 is_loading (Loading ticket) = true
 is_loading _ = false
@@ -38,6 +39,7 @@ is_loading _ = false
 abbrev pub NoneLoading : List CacheEntry → Type 0
 NoneLoading cells = AllByRecursion (λ e. is_loading e.1.state ≡ false) cells
 
+-- no cell of the cache is loading, where there is a cache
 abbrev pub NoneLoads : Option CachedIdentities → Type 0
 NoneLoads None = Unit {0}
 NoneLoads (Some cached) = NoneLoading cached.cache.cells
@@ -48,16 +50,20 @@ LoadsAlone identities = NoneLoads (rested identities.cached)
 
 -- so it is at a client's start, where nothing was kept yet
 abbrev pub BeginsAlone : Type 0 → Type 0
-BeginsAlone R = (identities : Identities R) (cache : SharedIdentityCache) → identities.cached ≡ cached_by cache → LoadsAlone identities
+BeginsAlone R =
+    (identities : Identities R) (cache : SharedIdentityCache) → identities.cached ≡ cached_by cache
+    → LoadsAlone identities
 
 -- ---- a choice that is pending
 
 -- among these calls the source of the scheme that is picked was asked, and answered Pending: the outside's resolve, or
 -- the resolver that is registered
-pub record SourcePends {A R : Type 0} (names : A → List ℕ) (polls : R → IdentityPoll → R → Type 0) (options : List (List ℕ)) (schemes : List A) (endpoint : Endpoint) (settings : StandingLayers)
+pub record SourcePends {A R : Type 0} (names : A → List ℕ) (polls : R → IdentityPoll → R → Type 0)
+    (options : List (List ℕ)) (schemes : List A) (endpoint : Endpoint) (settings : StandingLayers)
     (old new : List (RegisteredSource R)) (calls : List OutsideCall) : Type 0 where
   pub id : List ℕ
-  pub picks : Picks (map names schemes) (map (λ (s : RegisteredSource R). s.id) old) options (endpoint_before endpoint settings) settings (Scheme id)
+  pub picks : Picks (map names schemes) (map (λ (s : RegisteredSource R). s.id) old) options
+      (endpoint_before endpoint settings) settings (Scheme id)
   pub place : ℕ
   pub placed : position (λ (s : RegisteredSource R). is_id id s.id) old ≡ Some place
   pub earlier : List OutsideCall
@@ -69,26 +75,33 @@ pub record SourcePends {A R : Type 0} (names : A → List ℕ) (polls : R → Id
 
 module _ {T X Q C I A R Z D P L : Type 0} (means : ClientMeaning T X Q C I A R Z D P L) where
   -- a choice that was answered Pending, with the calls that it made
-  pub record PendsWithSource (old : Parts T X Q C I A R Z D P L) (before : List Entry) (settings : StandingLayers) (new : Parts T X Q C I A R Z D P L) : Type 0 where
+  pub record PendsWithSource (old : Parts T X Q C I A R Z D P L) (before : List Entry) (settings : StandingLayers)
+      (new : Parts T X Q C I A R Z D P L) : Type 0 where
     pub parts : Parts T X Q C I A R Z D P L
     pub served : Served means old before parts
     pub calls : List OutsideCall
     pub made : Chained means.makes parts.outside calls new.outside
-    pub pends : SourcePends means.names means.polls parts.given.options parts.given.schemes.items parts.given.endpoint settings parts.identities.sources.items new.identities.sources.items calls
+    pub pends : SourcePends means.names means.polls
+        parts.given.options parts.given.schemes.items parts.given.endpoint settings
+        parts.identities.sources.items new.identities.sources.items calls
 
   -- so it is of each choice that was answered Pending, where no cell was loading at first but that of an open load
   abbrev pub PendingChoicesAsked : Type 0
   PendingChoicesAsked =
-      (old new : Parts T X Q C I A R Z D P L) (before : List Entry) (settings : StandingLayers) → LoadsAlone old.identities
+      (old new : Parts T X Q C I A R Z D P L) (before : List Entry) (settings : StandingLayers)
+      → LoadsAlone old.identities
       → Served means old (before ++ entry (questions.Choose settings) answers.Pending ∷ []) new
       → PendsWithSource old before settings new
 
   -- whatever a client answers, it stays so
   abbrev pub LoadsStayAlone : Type 0
-  LoadsStayAlone = (old new : Parts T X Q C I A R Z D P L) (l : List Entry) → LoadsAlone old.identities → Served means old l new → LoadsAlone new.identities
+  LoadsStayAlone =
+      (old new : Parts T X Q C I A R Z D P L) (l : List Entry) → LoadsAlone old.identities → Served means old l new
+      → LoadsAlone new.identities
 
   -- and where outside and quota are exchanged
   abbrev pub ExchangedAlone : Type 0
   ExchangedAlone =
-      (old : Parts T X Q C I A R Z D P L) (outside : X) (quota : Q) (new : Parts T X Q C I A R Z D P L) (outside_after : X) (quota_after : Q) → LoadsAlone old.identities
+      (old : Parts T X Q C I A R Z D P L) (outside : X) (quota : Q) (new : Parts T X Q C I A R Z D P L)
+      (outside_after : X) (quota_after : Q) → LoadsAlone old.identities
       → Exchanges means.makes old outside quota new outside_after quota_after → LoadsAlone new.identities

@@ -35,6 +35,7 @@ abandoned_leaves role abandoned.WaitRetry = not (same_role role Retry)
 abandoned_leaves role abandoned.WaitLongPoll = not (same_role role LongPoll)
 abandoned_leaves role _ = true
 
+-- the question leaves this role's sleep alone
 abbrev pub leaves_sleep : Role → Question → Bool
 leaves_sleep role (questions.Configure stages.Client settings) = false
 leaves_sleep role (questions.Hook hook view) = hook_leaves role hook
@@ -44,7 +45,8 @@ leaves_sleep role _ = true
 
 module _ {T X Q C I A R Z D P L : Type 0} (means : ClientMeaning T X Q C I A R Z D P L) where
   -- behind these entries the role's sleep is open, and the outside said of it in one call that it is over
-  pub record SaidOver (old : Parts T X Q C I A R Z D P L) (role : Role) (before : List Entry) (new : Parts T X Q C I A R Z D P L) : Type 0 where
+  pub record SaidOver (old : Parts T X Q C I A R Z D P L) (role : Role) (before : List Entry)
+      (new : Parts T X Q C I A R Z D P L) : Type 0 where
     pub parts : Parts T X Q C I A R Z D P L
     pub served : Served means old before parts
     pub sleep : ℕ
@@ -55,7 +57,10 @@ module _ {T X Q C I A R Z D P L : Type 0} (means : ClientMeaning T X Q C I A R Z
   -- outside said so.
   abbrev pub WaitsAreOverAsTold : Type 0
   WaitsAreOverAsTold =
-      (old new : Parts T X Q C I A R Z D P L) (role : Role) (nanos : Option ℕ) (l : List Entry) → means.sleeps old.outside ≡ true
-      → Served means old (entry (questions.Start role nanos) answers.Started ∷ (l ++ entry (questions.Wait role) answers.Ready ∷ [])) new
+      (old new : Parts T X Q C I A R Z D P L) (role : Role) (nanos : Option ℕ) (l : List Entry)
+      → means.sleeps old.outside ≡ true
+      → Served means old
+      (entry (questions.Start role nanos) answers.Started ∷ (l ++ entry (questions.Wait role) answers.Ready ∷ []))
+      new
       → AllByRecursion (λ e. leaves_sleep role e.question ≡ true) l
       → SaidOver old role (entry (questions.Start role nanos) answers.Started ∷ l) new

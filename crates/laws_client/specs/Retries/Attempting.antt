@@ -17,7 +17,8 @@ use Rattle.smithy_types.specs.declared.payload.Payload.{Payload}
 
 -- a decision stands under no setting that allows more than n attempts
 abbrev pub AllowsAtMost : ℕ → Question → Type 0
-AllowsAtMost n (questions.Decide settings request response outcome attempt) = (retry : RetryConfig) → standing_retry settings ≡ Some retry → retry.max_attempts ≤ n
+AllowsAtMost n (questions.Decide settings request response outcome attempt) =
+    (retry : RetryConfig) → standing_retry settings ≡ Some retry → retry.max_attempts ≤ n
 AllowsAtMost n _ = Unit {0}
 
 -- a list begins as many attempts at most as the settings of its decisions allow, or one
@@ -26,7 +27,8 @@ BeginsAtMostAllowed l = (n : ℕ) → AllByRecursion (λ e. AllowsAtMost n e.que
 
 -- so does each whole run whose further attempts are paid for, at any prices
 abbrev pub SettingsBoundAttempts : Type 0
-SettingsBoundAttempts = (prices : Prices) (stop : StopPoint) (p : Payload) (l : List Entry) → IsWhole stop (start p) l → length l < 2 ^ 64
+SettingsBoundAttempts =
+    (prices : Prices) (stop : StopPoint) (p : Payload) (l : List Entry) → IsWhole stop (start p) l → length l < 2 ^ 64
     → AllByRecursion (λ e. Pays prices e.question e.answer) l → BeginsAtMostAllowed l
 
 -- the answer is that of a whole run

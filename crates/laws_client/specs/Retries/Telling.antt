@@ -21,6 +21,7 @@ abbrev pub NoteTells : {L : Type 0} → Meaning L → StandingLayers → Option 
 NoteTells m settings None = Unit {0}
 NoteTells m settings (Some note) = note.sums ≡ sums_in m (standing_bucket settings)
 
+-- so it is of the note that a decision answers
 abbrev pub AnswerTells : {L : Type 0} → Meaning L → StandingLayers → Answer → Type 0
 AnswerTells m settings (answers.Decided choice noted) = NoteTells m settings noted
 AnswerTells m settings _ = Unit {0}
@@ -38,4 +39,5 @@ TellsBuckets m l = (earlier : List Entry) (e : Entry) (later : List Entry) → l
 -- so it is of the quota behind a served list
 abbrev pub DecisionsTellBuckets : {T X Q C I A R Z D P L : Type 0} → ClientMeaning T X Q C I A R Z D P L → Type 0
 DecisionsTellBuckets {T} {X} {Q} {C} {I} {A} {R} {Z} {D} {P} {L} means =
-    (old new : Parts T X Q C I A R Z D P L) (l : List Entry) → Served means old l new → TellsBuckets (means.quota.meaning new.quota) l
+    (old new : Parts T X Q C I A R Z D P L) (l : List Entry) → Served means old l new
+    → TellsBuckets (means.quota.meaning new.quota) l

@@ -9,10 +9,12 @@ abbrev pub IsTimed : Option IdentityLoad → Type 0
 IsTimed None = Unit {0}
 IsTimed (Some load) = is_some load.sleep ≡ true
 
+-- a load into the cache that is open has a sleep
 abbrev pub LoadIsTimed : Option CachedIdentities → Type 0
 LoadIsTimed None = Unit {0}
 LoadIsTimed (Some cached) = IsTimed cached.current
 
+-- the same sources, cache and open load, which has a sleep
 pub record IdentitiesAlike {R : Type 0} (one two : Identities R) : Type 0 where
   pub sources : one.sources.items ≡ two.sources.items
   pub cached : one.cached ≡ two.cached
@@ -24,6 +26,7 @@ pub record Choices (X R : Type 0) : Type 0 where
   pub outside : X
   pub identities : Identities R
 
+-- one outside, and identities that are alike
 pub record ChoicesAlike {X R : Type 0} (one two : Choices X R) : Type 0 where
   pub outside : one.outside ≡ two.outside
   pub identities : IdentitiesAlike one.identities two.identities

@@ -13,19 +13,28 @@ use Rattle.laws_determined.specs.Auth.Alike.{Choices, ChoicesAlike}
 
 -- a sleep that is started is there
 abbrev pub HasSleeps : {X : Type 0} → (X → OutsideCall → X → Type 0) → Type 0
-HasSleeps {X} makes = (old new : X) (nanos : ℕ) (sleep : Option ℕ) → makes old (OfTimers (Start nanos (Ok sleep))) new → is_some sleep ≡ true
+HasSleeps {X} makes =
+    (old new : X) (nanos : ℕ) (sleep : Option ℕ) → makes old (OfTimers (Start nanos (Ok sleep))) new
+    → is_some sleep ≡ true
 
 -- what a resolver answers, and what it is then, follows from what it was
 abbrev pub PollsAlike : {R : Type 0} → (R → IdentityPoll → R → Type 0) → Type 0
-PollsAlike {R} polls = (one after left : R) (a b : IdentityPoll) → polls one a after → polls one b left → (a ≡ b) × (after ≡ left)
+PollsAlike {R} polls =
+    (one after left : R) (a b : IdentityPoll) → polls one a after → polls one b left → (a ≡ b) × (after ≡ left)
 
-module _ {X A R : Type 0} (makes : X → OutsideCall → X → Type 0) (names : A → List ℕ) (polls : R → IdentityPoll → R → Type 0) where
+module _ {X A R : Type 0} (makes : X → OutsideCall → X → Type 0) (names : A → List ℕ)
+    (polls : R → IdentityPoll → R → Type 0) where
   -- Choose, with the calls of the outside that it makes
-  abbrev pub Chooses : List (List ℕ) → List A → Endpoint → Bool → StandingLayers → Choices X R → Answer → Choices X R → Type 0
+  abbrev pub Chooses : List (List ℕ) → List A → Endpoint → Bool → StandingLayers → Choices X R → Answer → Choices X R
+      → Type 0
   Chooses options schemes endpoint time_source settings old a new =
       (calls : List OutsideCall) × Chained makes old.outside calls new.outside
-      × ChoosesBy names polls options schemes endpoint time_source settings old.identities.cached old.identities a new.identities calls
+      × ChoosesBy names polls options schemes endpoint time_source settings old.identities.cached
+      old.identities a new.identities calls
 
+  -- where resolvers are so and sleeps are there, a Choose has one answer from choices that are alike, and leaves such
   abbrev pub ChoicesAreDetermined : Type 0
   ChoicesAreDetermined = PollsAlike polls → HasSleeps makes
-      → (options : List (List ℕ)) (schemes : List A) (endpoint : Endpoint) (time_source : Bool) (settings : StandingLayers) → AnswersAlike ChoicesAlike (Chooses options schemes endpoint time_source settings)
+      → (options : List (List ℕ)) (schemes : List A) (endpoint : Endpoint) (time_source : Bool)
+      (settings : StandingLayers)
+      → AnswersAlike ChoicesAlike (Chooses options schemes endpoint time_source settings)

@@ -26,10 +26,12 @@ pub record LengthsAlike (one two : LengthGuard) : Type 0 where
   pub first : HasReceived one count
   pub second : HasReceived two count
 
+-- logs that are alike, and the same grace
 pub record ThroughputsAlike (one two : ThroughputGuard) : Type 0 where
   pub logs : LogsAlike one.logs two.logs
   pub grace : one.grace ≡ two.grace
 
+-- logs that are alike, and the same grace
 pub record UploadsAlike (one two : Upload) : Type 0 where
   pub log : LogsAlike one.log two.log
   pub grace : one.check.grace ≡ two.check.grace
@@ -41,14 +43,17 @@ MaybeAlike alike None (Some two) = ⊥
 MaybeAlike alike (Some one) None = ⊥
 MaybeAlike alike (Some one) (Some two) = alike one two
 
+-- each guard is absent from both, or alike
 pub record GuardsAlike (one two : Guards) : Type 0 where
   pub length : MaybeAlike LengthsAlike one.length two.length
   pub throughput : MaybeAlike ThroughputsAlike one.throughput two.throughput
 
+-- the same bytes so far, and guards that are alike
 pub record BodiesAlike (one two : OpenBody) : Type 0 where
   pub bytes : one.bytes ≡ two.bytes
   pub guards : GuardsAlike one.guards two.guards
 
+-- both calls stand at the same step, and what is open there is alike
 abbrev pub OpenAlike : Call → Call → Type 0
 OpenAlike Idle Idle = Unit {0}
 OpenAlike (Sending one) (Sending two) = MaybeAlike UploadsAlike one two
@@ -62,6 +67,7 @@ pub record Calls (X : Type 0) : Type 0 where
   pub outside : X
   pub call : Call
 
+-- one outside, and calls that are alike
 pub record CallsAlike {X : Type 0} (one two : Calls X) : Type 0 where
   pub outside : one.outside ≡ two.outside
   pub call : OpenAlike one.call two.call

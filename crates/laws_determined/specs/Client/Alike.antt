@@ -20,7 +20,9 @@ pub record GivenAlike {T X Q C I A R Z D P L : Type 0} (one two : Given T X Q C 
   pub deserializer : one.deserializer ≡ two.deserializer
   pub may_stream : one.may_stream ≡ two.may_stream
 
-pub record PartsAlike {T X C I A R Z D P L : Type 0} (bucket amount : P → ℕ) (one two : Parts T X (Registers L) C I A R Z D P L) : Type 0 where
+-- the same was given, and all that a run changes is alike
+pub record PartsAlike {T X C I A R Z D P L : Type 0} (bucket amount : P → ℕ)
+    (one two : Parts T X (Registers L) C I A R Z D P L) : Type 0 where
   pub given : GivenAlike one.given two.given
   pub sleeps : one.sleeps ≡ two.sleeps
   pub call : OpenAlike one.call two.call

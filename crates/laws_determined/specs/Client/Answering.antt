@@ -25,12 +25,17 @@ pub record ArePlain {T X Q C I A R Z D P L : Type 0} (means : ClientMeaning T X 
   pub interceptors : RunsAlike means.chain.runs
   pub resolvers : PollsAlike means.polls
   pub schemes : SignsAlike means.signs
-  pub serializers : (serializer : Z) (input : Payload) (settings : StandingLayers) (a b : Serialized) → means.serializes serializer input settings a → means.serializes serializer input settings b → a ≡ b
-  pub streams : (deserializer : D) (response : HttpResponse) (settings : StandingLayers) (a b : Option Outcome) → means.streams deserializer response settings a → means.streams deserializer response settings b → a ≡ b
-  pub deserializers : (deserializer : D) (response : HttpResponse) (settings : StandingLayers) (a b : Outcome) → means.deserializes deserializer response settings a → means.deserializes deserializer response settings b → a ≡ b
+  pub serializers : (serializer : Z) (input : Payload) (settings : StandingLayers) (a b : Serialized)
+      → means.serializes serializer input settings a → means.serializes serializer input settings b → a ≡ b
+  pub streams : (deserializer : D) (response : HttpResponse) (settings : StandingLayers) (a b : Option Outcome)
+      → means.streams deserializer response settings a → means.streams deserializer response settings b → a ≡ b
+  pub deserializers : (deserializer : D) (response : HttpResponse) (settings : StandingLayers) (a b : Outcome)
+      → means.deserializes deserializer response settings a → means.deserializes deserializer response settings b
+      → a ≡ b
 
 -- a client's meaning over registers in place of its quota
-abbrev pub with_registers : {T X Q C I A R Z D P L : Type 0} → ClientMeaning T X Q C I A R Z D P L → ClientMeaning T X (Registers L) C I A R Z D Permit L
+abbrev pub with_registers : {T X Q C I A R Z D P L : Type 0} → ClientMeaning T X Q C I A R Z D P L
+    → ClientMeaning T X (Registers L) C I A R Z D Permit L
 with_registers means = record {
   makes = means.makes;
   sleeps = means.sleeps;
@@ -45,11 +50,14 @@ with_registers means = record {
   deserializes = means.deserializes;
 }
 
-module _ {T X C I A R Z D P L : Type 0} (bucket amount : P → ℕ) (limiters : Limiters L) (means : ClientMeaning T X (Registers L) C I A R Z D P L) where
+module _ {T X C I A R Z D P L : Type 0} (bucket amount : P → ℕ) (limiters : Limiters L)
+    (means : ClientMeaning T X (Registers L) C I A R Z D P L) where
   -- the client with registers for its quota
   abbrev pub over_registers : ClientMeaning T X (Registers L) C I A R Z D P L
   over_registers = record means { quota = registers_mean bucket amount limiters }
 
   -- to a question there is one answer, and the parts that are left are alike
   abbrev pub AnswersAreDetermined : Type 0
-  AnswersAreDetermined = ArePlain means → (question : Question) → AnswersAlike (PartsAlike bucket amount) (λ old a new. Answers over_registers old question a new)
+  AnswersAreDetermined =
+      ArePlain means → (question : Question)
+      → AnswersAlike (PartsAlike bucket amount) (λ old a new. Answers over_registers old question a new)

@@ -14,13 +14,20 @@ use Rattle.smithy_types.specs.declared.partition.RetryPartition.{RetryPartition}
 pub record AreAlike {L : Type 0} (q r : Registers L) : Type 0 where
   pub books : q.books ≡ r.books
   pub limiters : q.limiters ≡ r.limiters
-  pub bucket_of : (partition : RetryPartition) → lookup (same_partition partition) q.bucket_names ≡ lookup (same_partition partition) r.bucket_names
-  pub limiter_of : (partition : RetryPartition) → lookup (same_partition partition) q.limiter_names ≡ lookup (same_partition partition) r.limiter_names
+  pub bucket_of : (partition : RetryPartition)
+      → lookup (same_partition partition) q.bucket_names ≡ lookup (same_partition partition) r.bucket_names
+  pub limiter_of : (partition : RetryPartition)
+      → lookup (same_partition partition) q.limiter_names ≡ lookup (same_partition partition) r.limiter_names
 
 module _ {P : Type 0} (bucket amount : P → ℕ) where
   -- what registers mean, whose permits are of this bucket and this amount
   abbrev pub registers_mean : {L : Type 0} → Limiters L → QuotaMeans (Registers L) P L
-  registers_mean limiters = record { meaning = meaning_of; permit_bucket = bucket; permit_amount = amount; limiters = limiters }
+  registers_mean limiters = record {
+    meaning = meaning_of;
+    permit_bucket = bucket;
+    permit_amount = amount;
+    limiters = limiters;
+  }
 
   -- both never retry, or hold permits of the same bucket and amount
   abbrev pub HoldAlike : RetryStrategy P → RetryStrategy P → Type 0
@@ -41,11 +48,13 @@ pub record Chains (X I L : Type 0) : Type 0 where
   pub chain : List I
   pub quota : Registers L
 
+-- one outside, strategies that hold alike, and quotas that are alike
 pub record RetriesAlike {X P L : Type 0} (bucket amount : P → ℕ) (one two : Retries X P L) : Type 0 where
   pub outside : one.outside ≡ two.outside
   pub strategy : HoldAlike bucket amount one.strategy two.strategy
   pub quota : AreAlike one.quota two.quota
 
+-- one outside, the same interceptors, and quotas that are alike
 pub record ChainsAlike {X I L : Type 0} (one two : Chains X I L) : Type 0 where
   pub outside : one.outside ≡ two.outside
   pub chain : one.chain ≡ two.chain

@@ -6,7 +6,8 @@ use Rattle.smithy_types.specs.declared.timers.TimersCall.TheVariants.{Now, Start
 -- the same call from one state, answered twice, has one answer
 abbrev pub Tells : {X A : Type 0} → (X → OutsideCall → X → Type 0) → (A → OutsideCall) → Type 0
 Tells {X} {A} makes call =
-    (old new other : X) (answer answered : A) → makes old (call answer) new → makes old (call answered) other → answer ≡ answered
+    (old new other : X) (answer answered : A) → makes old (call answer) new → makes old (call answered) other
+    → answer ≡ answered
 
 -- a call with its answer leaves one state, and each answer but want of memory follows from the state before
 pub record IsSteady {X : Type 0} (makes : X → OutsideCall → X → Type 0) : Type 0 where

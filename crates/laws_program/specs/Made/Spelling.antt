@@ -1,4 +1,5 @@
--- What stands in JSON for a script of clients that sign nothing: arrays in order, the members of an object by their names.
+-- What stands in JSON for a script of clients that sign nothing: arrays in order, the members of an object by their
+-- names.
 use Rattle.std.specs.Prelude.{ℕ, List, [], ◌∷◌, map, codes}
 use Rattle.serde_json.specs.Data.{Data, boolean, string, object, no_members, member}
 use Rattle.serde_json.specs.Written.{compact_text}
@@ -23,12 +24,15 @@ use Rattle.json_scripts.specs.Workload.Made.{made_script}
 
 -- a capacity, the costs of a retry, of throttling and of a transient error, a reward and a rate
 unfoldable pub bucket_data : BucketTerms → Data
-bucket_data b = row (num b.capacity ∷ num b.retry_cost ∷ num b.throttling_cost ∷ num b.transient_cost ∷ num b.reward ∷ num b.rate ∷ [])
+bucket_data b = row (
+    num b.capacity ∷ num b.retry_cost ∷ num b.throttling_cost ∷ num b.transient_cost ∷ num b.reward ∷ num b.rate ∷ [])
 
+-- never, or what the standard strategy goes by
 abbrev pub retry_choice_data : RetryChoice → Data
 retry_choice_data retries.Never = string (codes "never")
 retry_choice_data (retries.Standard r) = retry_data r
 
+-- the modeled one, that of transient errors, or one of these statuses
 abbrev pub classifier_data : ClassifierChoice → Data
 classifier_data classifiers.Modeled = string (codes "modeled")
 classifier_data classifiers.Transient = string (codes "transient")
@@ -61,12 +65,17 @@ frame_data f = row (num f.delay ∷ blob_data f.bytes ∷ [])
 
 -- a delay and a failure, or a delay, a status, headers, frames, whether they begin again, and a moment or null
 abbrev pub record_answer_data : ℕ → RecordAnswer → Data
-record_answer_data delay (given.Failed k t) = row (num delay ∷ row (string (codes "Failed") ∷ connector_data k ∷ string t ∷ []) ∷ [])
-record_answer_data delay (given.Response r) = row (num delay ∷ num r.status ∷ headers_data r.headers ∷ row (map frame_data r.frames) ∷ boolean r.repeat ∷ null_or num r.clock ∷ [])
+record_answer_data delay (given.Failed k t) =
+    row (num delay ∷ row (string (codes "Failed") ∷ connector_data k ∷ string t ∷ []) ∷ [])
+record_answer_data delay (given.Response r) = row (
+    num delay ∷ num r.status ∷ headers_data r.headers ∷ row (map frame_data r.frames) ∷ boolean r.repeat ∷
+    null_or num r.clock ∷ [])
 
+-- one answer of the connector, with its delay
 unfoldable pub record_data : ResponseRecord → Data
 record_data r = record_answer_data r.delay r.answer
 
+-- a client's number, fuel, an input, the connector's answers and where the run stops
 unfoldable pub invocation_data : InvocationRecord → Data
 invocation_data i = object (
     member (codes "client") (num i.client) (
@@ -77,6 +86,7 @@ invocation_data i = object (
 
 -- ---- scripts
 
+-- buckets, clients, their invocations, the moment of the start and words
 unfoldable pub script_data : ClientScript → Data
 script_data s = object (
     member (codes "buckets") (row (map bucket_data s.buckets)) (

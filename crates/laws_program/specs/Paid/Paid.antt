@@ -20,7 +20,8 @@ use Rattle.smithy_types.specs.declared.kinds.ErrorKind.{ErrorKind}
 -- attempts at most as its settings allow.
 pub record IsPaidFor (prices : Prices) (ran : Ran) : Type 0 where
   pub paid : AllByRecursion (λ e. Pays prices e.question e.answer) ran.log
-  pub attempts : ran.invocation.fuel < 2 ^ 64 → IsWhole ran.invocation.stop (start ran.invocation.input) ran.log → BeginsAtMostAllowed ran.log
+  pub attempts : ran.invocation.fuel < 2 ^ 64 → IsWhole ran.invocation.stop (start ran.invocation.input) ran.log
+      → BeginsAtMostAllowed ran.log
 
 -- The text begins with the script's invocations, and the sums of the buckets that they leave. Each
 -- invocation is paid for at the prices of these buckets, where the script's have the script's.
@@ -30,9 +31,13 @@ pub record PrintsPaidRuns (script : ClientScript) (text : List ℕ) : Type 0 whe
   pub quota : Registers Pace
   pub left : List ℕ
   pub text_is : text ≡ invocations_text 0 runs ++ (buckets_text 0 quota.books ++ left)
-  pub prices : (bucket : ℕ) → IfSome (slice_get script.buckets bucket) (λ terms. (kind : ErrorKind) → (meaning_of quota).cost bucket kind ≡ cost_of kind (book_of terms))
+  pub prices : (bucket : ℕ)
+      → IfSome (slice_get script.buckets bucket)
+      (λ terms. (kind : ErrorKind) → (meaning_of quota).cost bucket kind ≡ cost_of kind (book_of terms))
   pub pay : AllByRecursion (IsPaidFor (prices_of (meaning_of quota))) runs
 
 -- so it is of whatever a script's clients print
 abbrev pub ClientsPay : Type 0
-ClientsPay = (script : ClientScript) (text : List ℕ) (outcome : PrintStatus) → IsClientRun script text outcome → PrintsPaidRuns script text
+ClientsPay =
+    (script : ClientScript) (text : List ℕ) (outcome : PrintStatus) → IsClientRun script text outcome
+    → PrintsPaidRuns script text

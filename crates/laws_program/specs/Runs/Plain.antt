@@ -7,5 +7,6 @@ use Rattle.laws_determined.specs.Client.Answering.{ArePlain}
 use Rattle.laws_determined.specs.Retries.Kinds.{RunsAlike}
 
 -- where its interceptors are so
-abbrev pub ClientsArePlain : {C I : Type 0} → (C → InterceptorContext → RetryAction → RetryAction) → InterceptorMeans I → Type 0
+abbrev pub ClientsArePlain : {C I : Type 0} → (C → InterceptorContext → RetryAction → RetryAction)
+    → InterceptorMeans I → Type 0
 ClientsArePlain says chain = RunsAlike chain.runs → ArePlain (client_means says chain)
