@@ -56,7 +56,7 @@ def print_text(text: bytes) -> int:
 def compiled(room: pathlib.Path, command: Optional[str]) -> pathlib.Path:
     """Compiles the program of this command alone, or the whole one where none is given."""
     if command is None:
-        tell("smithy_replay: compiling the whole program, two minutes of one processor")
+        tell("smithy_replay: compiling the whole program, two to three minutes of one processor")
         return building.compiled(TOP / "crates/smithy_replay", MADE_SCRIPT, b"", room)
     with tempfile.TemporaryDirectory() as name:
         copies = pathlib.Path(name)
@@ -66,7 +66,7 @@ def compiled(room: pathlib.Path, command: Optional[str]) -> pathlib.Path:
             reason = f"its sources can't be copied to a folder for temporary files: {why}"
             raise building.NotBuilt(reason) from why
         (room / "sources").write_text("\n".join(folders))
-        tell(f"smithy_replay: compiling the command {command} alone, one minute of one processor")
+        tell(f"smithy_replay: compiling the command {command} alone, one to two minutes of one processor")
         return building.compiled(copies / "crates/smithy_replay", [command], SPACES, room)
 
 
