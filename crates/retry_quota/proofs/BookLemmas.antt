@@ -2,8 +2,7 @@
 use Rattle.std.proofs.Common.{◌≡◌, ◌∙◌, ap, refl, ℕ, ◌+◌, ◌-◌, ◌/◌, ◌%◌, ◌^◌, ◌≤◌, Bool, true, false, if◌then◌else◌, List, [], ◌∷◌, ◌++◌, arith, nat_lt, nat_le}
 use Rattle.std.proofs.lemmas.Bool.{leb-true}
 use Rattle.smithy_types.specs.declared.kinds.ErrorKind.{ErrorKind}
-use Rattle.smithy_types.specs.declared.kinds.ErrorKind.TheVariants.{TransientError, ThrottlingError, ServerError, ClientError}
-use Rattle.retry_quota.specs.Book.{Book, terms_of, IsBalanced, cost_of, refill, add, convert, ready, spend, fitting}
+use Rattle.retry_quota.specs.Book.{Book, terms_in, IsBalanced, cost_of, cost_under, refill, add, convert, ready, spend, fitting}
 use Rattle.retry_quota.specs.History.{Step, Acquire, Release, Forget, Reward, Regenerate, Convert, Look, Entry, after, end_of, is_granted, IsLegal}
 
 -- what two values share, the chosen one has
@@ -16,40 +15,37 @@ holds_if : {X : Type 0} → (P : X → Type 0) (t : Bool) (x y : X) → (t ≡ t
 holds_if P true x y first second = first refl
 holds_if P false x y first second = second
 
-terms-refill : (second : ℕ) (b : Book) → terms_of (refill second b) ≡ terms_of b
-terms-refill second b = same_if terms_of _ _ _ (terms_of b) refl refl
+terms-refill : (second : ℕ) (b : Book) → terms_in (refill second b) ≡ terms_in b
+terms-refill second b = same_if terms_in _ _ _ (terms_in b) refl refl
 
-terms-add : (tokens : ℕ) (b : Book) → terms_of (add tokens b) ≡ terms_of b
-terms-add tokens b = same_if terms_of _ _ _ (terms_of b) refl refl
+terms-add : (tokens : ℕ) (b : Book) → terms_in (add tokens b) ≡ terms_in b
+terms-add tokens b = same_if terms_in _ _ _ (terms_in b) refl refl
 
-terms-convert : (b : Book) → terms_of (convert b) ≡ terms_of b
+terms-convert : (b : Book) → terms_in (convert b) ≡ terms_in b
 terms-convert b = terms-add (b.fraction / 1000) (record b { fraction = b.fraction % 1000 })
 
-terms-ready : (second : ℕ) (b : Book) → terms_of (ready second b) ≡ terms_of b
+terms-ready : (second : ℕ) (b : Book) → terms_in (ready second b) ≡ terms_in b
 terms-ready second b = terms-convert (refill second b) ∙ terms-refill second b
 
 -- no step changes the terms
-pub terms-after : (step : Step) (b : Book) → terms_of (after step b) ≡ terms_of b
+pub terms-after : (step : Step) (b : Book) → terms_in (after step b) ≡ terms_in b
 terms-after (Acquire kind second) b =
-    same_if terms_of (is_granted kind second b) (spend (cost_of kind b) (ready second b)) (ready second b) (terms_of b)
+    same_if terms_in (is_granted kind second b) (spend (cost_of kind b) (ready second b)) (ready second b) (terms_in b)
     (terms-ready second b) (terms-ready second b)
-terms-after (Release amount) b = same_if terms_of _ _ _ (terms_of b) refl refl
-terms-after (Forget amount) b = same_if terms_of _ _ _ (terms_of b) refl refl
+terms-after (Release amount) b = same_if terms_in _ _ _ (terms_in b) refl refl
+terms-after (Forget amount) b = same_if terms_in _ _ _ (terms_in b) refl refl
 terms-after Reward b = refl
 terms-after Regenerate b = terms-add 1 b
 terms-after Convert b = terms-convert b
 terms-after Look b = refl
 
-pub terms-end_of : (entries : List Entry) (b : Book) → terms_of (end_of b entries) ≡ terms_of b
+pub terms-end_of : (entries : List Entry) (b : Book) → terms_in (end_of b entries) ≡ terms_in b
 terms-end_of [] b = refl
 terms-end_of (e ∷ es) b = terms-end_of es (after e.step b) ∙ terms-after e.step b
 
 -- the cost of a kind is one of the terms
-pub cost-terms : (kind : ErrorKind) (a b : Book) → terms_of a ≡ terms_of b → cost_of kind a ≡ cost_of kind b
-cost-terms TransientError a b same = ap (λ t. t.transient_cost) same
-cost-terms ThrottlingError a b same = ap (λ t. t.throttling_cost) same
-cost-terms ServerError a b same = ap (λ t. t.retry_cost) same
-cost-terms ClientError a b same = ap (λ t. t.retry_cost) same
+pub cost-terms : (kind : ErrorKind) (a b : Book) → terms_in a ≡ terms_in b → cost_of kind a ≡ cost_of kind b
+cost-terms kind a b same = ap (cost_under kind) same
 
 pub cost-after : (kind : ErrorKind) (step : Step) (b : Book) → cost_of kind (after step b) ≡ cost_of kind b
 cost-after kind step b = cost-terms kind (after step b) b (terms-after step b)

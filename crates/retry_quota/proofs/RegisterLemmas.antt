@@ -35,7 +35,7 @@ costs_stay : {L : Type 0} → (r : Registers L) (bucket : ℕ) (step : Step)
 costs_stay r bucket step = record {
   has = λ j. ap (λ n. nat_lt j n) (length-change_at (after step) r.books bucket);
   cost = λ j kind. map_or-change_at (cost_of kind) (after step) (cost-after kind step) r.books bucket j 0;
-  reward = λ j. map_or-change_at (λ b. b.reward) (after step) (λ b. ap (λ t. t.reward) (terms-after step b)) r.books bucket j 0;
+  reward = λ j. map_or-change_at (λ b. b.reward) (after step) (λ b. ap (λ t. t.success_reward) (terms-after step b)) r.books bucket j 0;
   bucket_of = λ p. refl;
   limiter_of = λ p. refl;
 }

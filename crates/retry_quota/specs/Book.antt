@@ -9,6 +9,8 @@ use Rattle.smithy_types.specs.declared.config.RetrySpec.{RetrySpec}
 use Rattle.smithy_types.specs.declared.config.RetrySpecVersion.{RetrySpecVersion}
 use Rattle.smithy_types.specs.declared.config.RetrySpecVersion.TheVariants.{V2_0, V2_1}
 use Rattle.retry_quota.specs.declared.TheConstants.{MAXIMUM_CAPACITY}
+use Rattle.retry_quota.specs.declared.state.BucketTerms.{BucketTerms}
+use Rattle.retry_quota.specs.declared.state.BucketState.{BucketState}
 
 -- whole tokens, but for the reward, the rate and the fraction, which are thousandths of a token
 pub record Book : Type 0 where
@@ -25,24 +27,43 @@ pub record Book : Type 0 where
   pub fraction : ℕ
   pub last_second : ℕ
 
--- what no step of a book changes
-pub record Terms : Type 0 where
-  pub capacity : ℕ
-  pub retry_cost : ℕ
-  pub throttling_cost : ℕ
-  pub transient_cost : ℕ
-  pub reward : ℕ
-  pub rate : ℕ
+-- the book of a bucket that has these terms, which no step changes, and these changing numbers
+abbrev pub book_from : BucketTerms → BucketState → Book
+book_from t s = record {
+  capacity = t.capacity;
+  retry_cost = t.retry_cost;
+  throttling_cost = t.throttling_retry_cost;
+  transient_cost = t.timeout_retry_cost;
+  reward = t.success_reward;
+  rate = t.refill_rate;
+  granted = s.granted;
+  available = s.available;
+  held = s.held;
+  forgotten = s.forgotten;
+  fraction = s.fraction;
+  last_second = s.last_refill_secs;
+}
 
 -- the terms of a book: its numbers that no step changes
-abbrev pub terms_of : Book → Terms
-terms_of b = record {
+abbrev pub terms_in : Book → BucketTerms
+terms_in b = record {
   capacity = b.capacity;
   retry_cost = b.retry_cost;
-  throttling_cost = b.throttling_cost;
-  transient_cost = b.transient_cost;
-  reward = b.reward;
-  rate = b.rate;
+  throttling_retry_cost = b.throttling_cost;
+  timeout_retry_cost = b.transient_cost;
+  success_reward = b.reward;
+  refill_rate = b.rate;
+}
+
+-- the changing numbers of a book
+abbrev pub state_in : Book → BucketState
+state_in b = record {
+  granted = b.granted;
+  available = b.available;
+  held = b.held;
+  forgotten = b.forgotten;
+  fraction = b.fraction;
+  last_refill_secs = b.last_second;
 }
 
 -- nothing is lost and nothing is made: each token that was ever there is available, held or forgotten
@@ -55,43 +76,69 @@ pub record IsSound (b : Book) : Type 0 where
   pub balanced : IsBalanced b
   pub counted : b.capacity + b.granted < 2 ^ 64
 
--- a book that nobody has used yet
-abbrev pub opening : ℕ → ℕ → ℕ → ℕ → ℕ → ℕ → Book
-opening capacity retry_cost throttling_cost transient_cost reward rate = record {
-  capacity = capacity;
-  retry_cost = retry_cost;
-  throttling_cost = throttling_cost;
-  transient_cost = transient_cost;
-  reward = reward;
-  rate = rate;
+-- the book of these terms that nobody has used yet
+abbrev pub opening : BucketTerms → Book
+opening t = record {
+  capacity = t.capacity;
+  retry_cost = t.retry_cost;
+  throttling_cost = t.throttling_retry_cost;
+  transient_cost = t.timeout_retry_cost;
+  reward = t.success_reward;
+  rate = t.refill_rate;
   granted = 0;
-  available = capacity;
+  available = t.capacity;
   held = 0;
   forgotten = 0;
   fraction = 0;
   last_second = 0;
 }
 
--- a book of this capacity with the default costs, without a reward and without a refill
+-- the book of these terms that nobody has used yet; a capacity above the maximum counts as the maximum
+abbrev pub book_of : BucketTerms → Book
+book_of t = opening (record t { capacity = min t.capacity MAXIMUM_CAPACITY })
+
+-- the default costs with this capacity, without a reward and without a refill
+abbrev pub plain_terms : ℕ → BucketTerms
+plain_terms capacity = record {
+  capacity = capacity;
+  retry_cost = 5;
+  throttling_retry_cost = 5;
+  timeout_retry_cost = 10;
+  success_reward = 0;
+  refill_rate = 0;
+}
+
+-- the book of the plain terms with this capacity that nobody has used yet
 abbrev pub plain_book : ℕ → Book
-plain_book capacity = opening capacity 5 5 10 0 0
+plain_book capacity = opening (plain_terms capacity)
 
 -- the book of a default partition's bucket, by the specification under which the partition comes first
 abbrev pub version_book : RetrySpecVersion → Book
 version_book V2_0 = plain_book 500
-version_book V2_1 = opening 500 14 5 14 0 0
+version_book V2_1 = opening (record {
+  capacity = 500;
+  retry_cost = 14;
+  throttling_retry_cost = 5;
+  timeout_retry_cost = 14;
+  success_reward = 0;
+  refill_rate = 0;
+})
 
 -- the book of a new default partition; without a specification it is that of version 2.0
 abbrev pub default_book : Option RetrySpec → Book
 default_book None = plain_book 500
 default_book (Some spec) = version_book spec.version
 
+-- what a retry after an error of this kind costs under the terms
+abbrev pub cost_under : ErrorKind → BucketTerms → ℕ
+cost_under TransientError t = t.timeout_retry_cost
+cost_under ThrottlingError t = t.throttling_retry_cost
+cost_under ServerError t = t.retry_cost
+cost_under ClientError t = t.retry_cost
+
 -- what a retry after an error of this kind takes from the bucket
 abbrev pub cost_of : ErrorKind → Book → ℕ
-cost_of TransientError b = b.transient_cost
-cost_of ThrottlingError b = b.throttling_cost
-cost_of ServerError b = b.retry_cost
-cost_of ClientError b = b.retry_cost
+cost_of kind b = cost_under kind (terms_in b)
 
 -- the most that a fraction may be
 abbrev pub fraction_cap : Book → ℕ

@@ -1,7 +1,7 @@
 pub mod Book
+pub mod Caller
 pub mod Calls
 pub mod History
 pub mod Meaning
 pub mod Place
 pub mod Registers
-pub mod State

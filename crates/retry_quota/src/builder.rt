@@ -1,36 +1,25 @@
 //! The builder of a token bucket.
 ghost use Rattle.std.specs.Prelude.{◌≡◌, min, IsOkAnd};
 ghost use Rattle.retry_quota.specs.Book.{plain_book};
+ghost use Rattle.retry_quota.specs.declared.TheConstants.{MAXIMUM_CAPACITY};
 
-use crate::token_bucket::{DEFAULT_CAPACITY, DEFAULT_RETRY_COST, DEFAULT_TIMEOUT_RETRY_COST};
-use crate::{MAXIMUM_CAPACITY, TokenBucket};
+use crate::{BucketTerms, TokenBucket};
 use std::alloc::AllocError;
 use std::marker::Model;
 
-/// Builds a token bucket. A part that isn't set has the default of `TokenBucket::default`.
+/// Builds a token bucket. A part that isn't set has the default of `BucketTerms::default`.
 #[derive(Debug, Drop)]
 pub struct TokenBucketBuilder {
-    capacity: Option<u64>,
-    retry_cost: Option<u32>,
-    throttling_retry_cost: Option<u32>,
-    timeout_retry_cost: Option<u32>,
-    success_reward: Option<u64>,
-    refill_rate: Option<u64>,
+    terms: BucketTerms,
 }
 
 /// A builder is seen as the book that it would build.
 impl Model for TokenBucketBuilder {
-    ghost use Rattle.std.specs.Prelude.{unwrap_or, ◌≤◌};
-    ghost use Rattle.retry_quota.specs.Book.{Book, opening};
-    ghost use Rattle.retry_quota.specs.declared.TheConstants.{MAXIMUM_CAPACITY};
+    ghost use Rattle.retry_quota.specs.Book.{Book, book_of};
 
     ghost Value = { Book };
 
-    ghost view = { λ b. opening (unwrap_or b.capacity 500) (unwrap_or b.retry_cost 5)
-        (unwrap_or b.throttling_retry_cost 5) (unwrap_or b.timeout_retry_cost 10)
-        (unwrap_or b.success_reward 0) (unwrap_or b.refill_rate 0) };
-
-    ghost invariant = { λ b. unwrap_or b.capacity 500 ≤ MAXIMUM_CAPACITY };
+    ghost view = { λ b. book_of b.terms };
 }
 
 impl TokenBucketBuilder {
@@ -39,12 +28,7 @@ impl TokenBucketBuilder {
         ensures { result ≡ plain_book 500 }
     {
         TokenBucketBuilder {
-            capacity: None,
-            retry_cost: None,
-            throttling_retry_cost: None,
-            timeout_retry_cost: None,
-            success_reward: None,
-            refill_rate: None,
+            terms: BucketTerms::default(),
         }
     }
 
@@ -53,7 +37,7 @@ impl TokenBucketBuilder {
         ensures { let most = min capacity MAXIMUM_CAPACITY in result ≡
             record self { capacity = most; available = most } }
     {
-        self.capacity = Some(capacity.min(MAXIMUM_CAPACITY));
+        self.terms.capacity = capacity;
         self
     }
 
@@ -61,7 +45,7 @@ impl TokenBucketBuilder {
     pub fn retry_cost(mut self, retry_cost: u32) -> TokenBucketBuilder
         ensures { result ≡ record self { retry_cost = retry_cost } }
     {
-        self.retry_cost = Some(retry_cost);
+        self.terms.retry_cost = retry_cost;
         self
     }
 
@@ -69,7 +53,7 @@ impl TokenBucketBuilder {
     pub fn throttling_retry_cost(mut self, throttling_retry_cost: u32) -> TokenBucketBuilder
         ensures { result ≡ record self { throttling_cost = throttling_retry_cost } }
     {
-        self.throttling_retry_cost = Some(throttling_retry_cost);
+        self.terms.throttling_retry_cost = throttling_retry_cost;
         self
     }
 
@@ -77,7 +61,7 @@ impl TokenBucketBuilder {
     pub fn timeout_retry_cost(mut self, timeout_retry_cost: u32) -> TokenBucketBuilder
         ensures { result ≡ record self { transient_cost = timeout_retry_cost } }
     {
-        self.timeout_retry_cost = Some(timeout_retry_cost);
+        self.terms.timeout_retry_cost = timeout_retry_cost;
         self
     }
 
@@ -85,7 +69,7 @@ impl TokenBucketBuilder {
     pub fn success_reward(mut self, success_reward: u64) -> TokenBucketBuilder
         ensures { result ≡ record self { reward = success_reward } }
     {
-        self.success_reward = Some(success_reward);
+        self.terms.success_reward = success_reward;
         self
     }
 
@@ -93,7 +77,7 @@ impl TokenBucketBuilder {
     pub fn refill_rate(mut self, refill_rate: u64) -> TokenBucketBuilder
         ensures { result ≡ record self { rate = refill_rate } }
     {
-        self.refill_rate = Some(refill_rate);
+        self.terms.refill_rate = refill_rate;
         self
     }
 
@@ -101,18 +85,7 @@ impl TokenBucketBuilder {
     pub fn build(self) -> TokenBucket
         ensures { result ≡ self }
     {
-        let costs = (
-            self.retry_cost.unwrap_or(DEFAULT_RETRY_COST),
-            self.throttling_retry_cost.unwrap_or(DEFAULT_RETRY_COST),
-            self.timeout_retry_cost
-                .unwrap_or(DEFAULT_TIMEOUT_RETRY_COST),
-        );
-        TokenBucket::open(
-            self.capacity.unwrap_or(DEFAULT_CAPACITY),
-            costs,
-            self.success_reward.unwrap_or(0),
-            self.refill_rate.unwrap_or(0),
-        )
+        TokenBucket::with_terms(self.terms)
     }
 }
 
@@ -122,14 +95,7 @@ impl Clone for TokenBucketBuilder {
     fn clone(&self) -> Result<TokenBucketBuilder, AllocError>
         ensures { IsOkAnd result (λ copy. copy ≡ self.now) }
     {
-        Ok(TokenBucketBuilder {
-            capacity: self.capacity,
-            retry_cost: self.retry_cost,
-            throttling_retry_cost: self.throttling_retry_cost,
-            timeout_retry_cost: self.timeout_retry_cost,
-            success_reward: self.success_reward,
-            refill_rate: self.refill_rate,
-        })
+        Ok(TokenBucketBuilder { terms: self.terms })
     }
 }
 

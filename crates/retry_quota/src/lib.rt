@@ -2,6 +2,7 @@
 #![tactic(auto)]
 
 pub mod builder;
+pub mod caller;
 pub mod error;
 pub mod free_limiter;
 pub mod laws;
@@ -15,6 +16,7 @@ pub mod static_partition_map;
 pub mod token_bucket;
 
 pub use builder::TokenBucketBuilder;
+pub use caller::CallerQuota;
 pub use error::QuotaError;
 pub use limiter::{Limiter, RequestReason};
 pub use partition_table::PartitionTable;

@@ -17,12 +17,23 @@ use std::marker::Model;
 const V2_1_RETRY_COST: u32 = 14;
 
 /// The buckets and the limiters of one thread, by their numbers.
-#[derive(Drop)]
 pub struct Registry<L: Limiter> {
     buckets: Vec<TokenBucket>,
     limiters: Vec<L>,
     bucket_names: PartitionTable<RetryPartition, u32>,
     limiter_names: PartitionTable<RetryPartition, u32>,
+}
+
+// Written out, so that a drop is one call wherever a registry is dropped.
+impl<L: Limiter> Drop for Registry<L> {
+    fn drop(self) {
+        let Registry {
+            buckets: _,
+            limiters: _,
+            bucket_names: _,
+            limiter_names: _,
+        } = self;
+    }
 }
 
 impl<L: Limiter> Model for Registry<L> {

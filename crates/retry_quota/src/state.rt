@@ -1,8 +1,17 @@
 //! A bucket's numbers by themselves: those that no step changes, and those that steps change.
 ghost use Rattle.std.specs.Prelude.{◌≡◌};
-ghost use Rattle.retry_quota.specs.State.{cost_under};
+ghost use Rattle.retry_quota.specs.Book.{cost_under, plain_terms};
 
 use smithy_types::ErrorKind;
+
+/// The capacity where none is set.
+const DEFAULT_CAPACITY: u64 = 500;
+
+/// What a retry costs where nothing else is set, after throttling too.
+const DEFAULT_RETRY_COST: u32 = 5;
+
+/// What a retry after a transient failure costs where nothing else is set.
+const DEFAULT_TIMEOUT_RETRY_COST: u32 = 10;
 
 /// What no step of a bucket changes.
 #[derive(Clone, Copy, Debug, PartialEq, Eq)]
@@ -22,6 +31,20 @@ pub struct BucketTerms {
 }
 
 impl BucketTerms {
+    // The default costs with this capacity, without a reward and without a refill.
+    pub(crate) fn plain(capacity: u64) -> BucketTerms
+        ensures { result ≡ plain_terms capacity }
+    {
+        BucketTerms {
+            capacity,
+            retry_cost: DEFAULT_RETRY_COST,
+            throttling_retry_cost: DEFAULT_RETRY_COST,
+            timeout_retry_cost: DEFAULT_TIMEOUT_RETRY_COST,
+            success_reward: 0,
+            refill_rate: 0,
+        }
+    }
+
     /// What a retry after a failure of this kind costs, in tokens.
     pub fn cost(&self, kind: ErrorKind) -> u32
         ensures { result ≡ cost_under kind self.now }
@@ -31,6 +54,16 @@ impl BucketTerms {
             ErrorKind::ThrottlingError => self.throttling_retry_cost,
             ErrorKind::ServerError | ErrorKind::ClientError => self.retry_cost,
         }
+    }
+}
+
+/// A capacity of 500 tokens, a cost of 5 for a retry, 5 after throttling and 10 after a transient
+/// failure, without a reward and without a refill.
+impl Default for BucketTerms {
+    ghost is_default = { λ t. t ≡ plain_terms 500 };
+
+    fn default() -> BucketTerms {
+        BucketTerms::plain(DEFAULT_CAPACITY)
     }
 }
 

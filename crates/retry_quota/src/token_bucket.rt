@@ -2,6 +2,8 @@
 ghost use Rattle.std.specs.Prelude.{◌≡◌, ◌≤◌, ◌↔◌, IsSome, IfSome, IsOk, IfOk, option_map};
 ghost use Rattle.retry_quota.specs.Book.{
   add,
+  book_from,
+  book_of,
   convert,
   cost_of,
   is_empty,
@@ -11,11 +13,12 @@ ghost use Rattle.retry_quota.specs.Book.{
   raised,
   ready,
   refill,
+  state_in,
   sums_of,
+  terms_in,
   IsBalanced,
   IsSound,
 };
-ghost use Rattle.retry_quota.specs.State.{book_from, terms_in, state_in};
 ghost use Rattle.retry_quota.specs.History.{after, acquire_reply, reply_to};
 ghost use Rattle.retry_quota.specs.History.{Acquire, Release, Forget, Reward, Regenerate, Convert};
 
@@ -25,15 +28,6 @@ use crate::{
 use smithy_types::ErrorKind;
 use std::marker::Model;
 
-/// The capacity where none is set.
-pub(crate) const DEFAULT_CAPACITY: u64 = 500;
-
-/// What a retry costs where nothing else is set, after throttling too.
-pub(crate) const DEFAULT_RETRY_COST: u32 = 5;
-
-/// What a retry after a transient failure costs where nothing else is set.
-pub(crate) const DEFAULT_TIMEOUT_RETRY_COST: u32 = 10;
-
 /// How many thousandths a token has.
 const THOUSANDTHS: u64 = 1000;
 
@@ -42,82 +36,35 @@ const THOUSANDTHS: u64 = 1000;
 /// retry. Time and success add thousandths of a token, and whole tokens come of them.
 #[derive(Drop)]
 pub struct TokenBucket {
-    capacity: u64,
-    retry_cost: u32,
-    throttling_retry_cost: u32,
-    timeout_retry_cost: u32,
-    success_reward: u64,
-    refill_rate: u64,
-    granted: u64,
-    available: u64,
-    held: u64,
-    forgotten: u64,
-    fraction: u64,
-    last_refill_secs: u64,
+    terms: BucketTerms,
+    state: BucketState,
 }
 
 impl Model for TokenBucket {
-    ghost use Rattle.retry_quota.specs.Book.{Book, IsSound};
+    ghost use Rattle.retry_quota.specs.Book.{Book, IsSound, book_from};
 
     ghost Value = { Book };
 
-    ghost view = { λ b. record {
-      capacity = b.capacity;
-      retry_cost = b.retry_cost;
-      throttling_cost = b.throttling_retry_cost;
-      transient_cost = b.timeout_retry_cost;
-      reward = b.success_reward;
-      rate = b.refill_rate;
-      granted = b.granted;
-      available = b.available;
-      held = b.held;
-      forgotten = b.forgotten;
-      fraction = b.fraction;
-      last_second = b.last_refill_secs;
-    } };
+    ghost view = { λ b. book_from b.terms b.state };
 
-    ghost invariant = { λ b. IsSound (record {
-      capacity = b.capacity;
-      retry_cost = b.retry_cost;
-      throttling_cost = b.throttling_retry_cost;
-      transient_cost = b.timeout_retry_cost;
-      reward = b.success_reward;
-      rate = b.refill_rate;
-      granted = b.granted;
-      available = b.available;
-      held = b.held;
-      forgotten = b.forgotten;
-      fraction = b.fraction;
-      last_second = b.last_refill_secs;
-    }) };
+    ghost invariant = { λ b. IsSound (book_from b.terms b.state) };
 }
 
 impl TokenBucket {
-    // A bucket that nobody has used yet.
-    pub(crate) fn open(
-        capacity: u64,
-        costs: (u32, u32, u32),
-        success_reward: u64,
-        refill_rate: u64,
-    ) -> TokenBucket
-        requires { capacity ≤ MAXIMUM_CAPACITY }
-        ensures { result ≡ opening capacity costs.0 costs.1 costs.2 success_reward refill_rate }
+    // A bucket of these terms that nobody has used yet.
+    fn open(terms: BucketTerms) -> TokenBucket
+        requires { terms.capacity ≤ MAXIMUM_CAPACITY }
+        ensures { result ≡ opening terms }
     {
-        let (retry_cost, throttling_retry_cost, timeout_retry_cost) = costs;
-        TokenBucket {
-            capacity,
-            retry_cost,
-            throttling_retry_cost,
-            timeout_retry_cost,
-            success_reward,
-            refill_rate,
+        let state = BucketState {
             granted: 0,
-            available: capacity,
+            available: terms.capacity,
             held: 0,
             forgotten: 0,
             fraction: 0,
             last_refill_secs: 0,
-        }
+        };
+        TokenBucket { terms, state }
     }
 
     // A bucket with the default costs, without a reward and without a refill.
@@ -125,12 +72,16 @@ impl TokenBucket {
         requires { capacity ≤ MAXIMUM_CAPACITY }
         ensures { result ≡ plain_book capacity }
     {
-        let costs = (
-            DEFAULT_RETRY_COST,
-            DEFAULT_RETRY_COST,
-            DEFAULT_TIMEOUT_RETRY_COST,
-        );
-        TokenBucket::open(capacity, costs, 0, 0)
+        TokenBucket::open(BucketTerms::plain(capacity))
+    }
+
+    /// A bucket of these terms that nobody has used yet. A capacity above the maximum counts as the
+    /// maximum.
+    pub fn with_terms(terms: BucketTerms) -> TokenBucket
+        ensures { result ≡ book_of terms }
+    {
+        let capacity = terms.capacity.min(MAXIMUM_CAPACITY);
+        TokenBucket::open(BucketTerms { capacity, ..terms })
     }
 
     /// A bucket that opens with this many tokens, with the default costs of 5 tokens for a retry, 5
@@ -154,9 +105,23 @@ impl TokenBucket {
 
     /// A bucket of the greatest capacity, from which every retry is free.
     pub fn unlimited() -> TokenBucket
-        ensures { result ≡ opening MAXIMUM_CAPACITY 0 0 0 0 0 }
+        ensures { result ≡ opening (record {
+          capacity = MAXIMUM_CAPACITY;
+          retry_cost = 0;
+          throttling_retry_cost = 0;
+          timeout_retry_cost = 0;
+          success_reward = 0;
+          refill_rate = 0;
+        }) }
     {
-        TokenBucket::open(MAXIMUM_CAPACITY, (0, 0, 0), 0, 0)
+        TokenBucket::open(BucketTerms {
+            capacity: MAXIMUM_CAPACITY,
+            retry_cost: 0,
+            throttling_retry_cost: 0,
+            timeout_retry_cost: 0,
+            success_reward: 0,
+            refill_rate: 0,
+        })
     }
 
     /// Pays for a retry after a failure of this kind, at this second. First the time since the last
@@ -173,11 +138,11 @@ impl TokenBucket {
         self.refill(now_secs);
         self.convert();
         let amount = self.cost(kind);
-        if self.available < amount as u64 {
+        if self.state.available < amount as u64 {
             return None;
         }
-        self.available -= amount as u64;
-        self.held += amount as u64;
+        self.state.available -= amount as u64;
+        self.state.held += amount as u64;
         Some(Permit { bucket: 0, amount })
     }
 
@@ -186,8 +151,8 @@ impl TokenBucket {
         requires { permit.amount ≤ self.old.held }
         ensures { self.new ≡ after (Release permit.amount) self.old }
     {
-        self.held -= permit.amount as u64;
-        self.available += permit.amount as u64;
+        self.state.held -= permit.amount as u64;
+        self.state.available += permit.amount as u64;
     }
 
     /// Gives a permit's tokens up.
@@ -195,15 +160,15 @@ impl TokenBucket {
         requires { permit.amount ≤ self.old.held }
         ensures { self.new ≡ after (Forget permit.amount) self.old }
     {
-        self.held -= permit.amount as u64;
-        self.forgotten += permit.amount as u64;
+        self.state.held -= permit.amount as u64;
+        self.state.forgotten += permit.amount as u64;
     }
 
     /// Adds the reward of a success to the fraction, up to the thousandths of the capacity.
     pub fn reward_success(&mut self)
         ensures { self.new ≡ after Reward self.old }
     {
-        self.raise(self.success_reward);
+        self.raise(self.terms.success_reward);
     }
 
     /// Adds a token, where there is room for it.
@@ -219,7 +184,7 @@ impl TokenBucket {
         ensures full { result ≡ is_full self.new }
     {
         self.convert();
-        self.available >= self.capacity
+        self.state.available >= self.terms.capacity
     }
 
     /// Whether no token is available, once whole tokens have left the fraction.
@@ -228,7 +193,7 @@ impl TokenBucket {
         ensures empty { result ≡ is_empty self.new }
     {
         self.convert();
-        self.available == 0
+        self.state.available == 0
     }
 
     /// The five sums.
@@ -237,11 +202,11 @@ impl TokenBucket {
         ensures balanced { IsBalanced self.now }
     {
         Sums {
-            capacity: self.capacity,
-            granted: self.granted,
-            available: self.available,
-            held: self.held,
-            forgotten: self.forgotten,
+            capacity: self.terms.capacity,
+            granted: self.state.granted,
+            available: self.state.available,
+            held: self.state.held,
+            forgotten: self.state.forgotten,
         }
     }
 
@@ -250,34 +215,14 @@ impl TokenBucket {
         requires { IsSound (book_from terms state) }
         ensures { result ≡ book_from terms state }
     {
-        TokenBucket {
-            capacity: terms.capacity,
-            retry_cost: terms.retry_cost,
-            throttling_retry_cost: terms.throttling_retry_cost,
-            timeout_retry_cost: terms.timeout_retry_cost,
-            success_reward: terms.success_reward,
-            refill_rate: terms.refill_rate,
-            granted: state.granted,
-            available: state.available,
-            held: state.held,
-            forgotten: state.forgotten,
-            fraction: state.fraction,
-            last_refill_secs: state.last_refill_secs,
-        }
+        TokenBucket { terms, state }
     }
 
     /// What no step changes.
     pub fn terms(&self) -> BucketTerms
         ensures { result ≡ terms_in self.now }
     {
-        BucketTerms {
-            capacity: self.capacity,
-            retry_cost: self.retry_cost,
-            throttling_retry_cost: self.throttling_retry_cost,
-            timeout_retry_cost: self.timeout_retry_cost,
-            success_reward: self.success_reward,
-            refill_rate: self.refill_rate,
-        }
+        self.terms
     }
 
     /// What steps change.
@@ -285,41 +230,30 @@ impl TokenBucket {
         ensures state { result ≡ state_in self.now }
         ensures sound { IsSound self.now }
     {
-        BucketState {
-            granted: self.granted,
-            available: self.available,
-            held: self.held,
-            forgotten: self.forgotten,
-            fraction: self.fraction,
-            last_refill_secs: self.last_refill_secs,
-        }
+        self.state
     }
 
     /// What a retry after a failure of this kind costs, in tokens.
     pub fn cost(&self, kind: ErrorKind) -> u32
         ensures { result ≡ cost_of kind self.now }
     {
-        match kind {
-            ErrorKind::TransientError => self.timeout_retry_cost,
-            ErrorKind::ThrottlingError => self.throttling_retry_cost,
-            ErrorKind::ServerError | ErrorKind::ClientError => self.retry_cost,
-        }
+        self.terms.cost(kind)
     }
 
     /// What a success adds to the fraction, in thousandths of a token.
     pub fn success_reward(&self) -> u64
         ensures { result ≡ self.now.reward }
     {
-        self.success_reward
+        self.terms.success_reward
     }
 
     // Raises the fraction up to its cap.
     fn raise(&mut self, more: u64)
         ensures { self.new ≡ record self.old { fraction = raised more self.old } }
     {
-        let cap = self.capacity * THOUSANDTHS;
-        if self.fraction < cap {
-            self.fraction = self.fraction.saturating_add(more).min(cap);
+        let cap = self.terms.capacity * THOUSANDTHS;
+        if self.state.fraction < cap {
+            self.state.fraction = self.state.fraction.saturating_add(more).min(cap);
         }
     }
 
@@ -327,38 +261,38 @@ impl TokenBucket {
     fn refill(&mut self, now_secs: u64)
         ensures { self.new ≡ refill now_secs self.old }
     {
-        if self.refill_rate == 0 || now_secs == self.last_refill_secs {
+        if self.terms.refill_rate == 0 || now_secs == self.state.last_refill_secs {
             return;
         }
-        let elapsed = now_secs.saturating_sub(self.last_refill_secs);
-        self.last_refill_secs = now_secs;
-        self.raise(elapsed.saturating_mul(self.refill_rate));
+        let elapsed = now_secs.saturating_sub(self.state.last_refill_secs);
+        self.state.last_refill_secs = now_secs;
+        self.raise(elapsed.saturating_mul(self.terms.refill_rate));
     }
 
     // Adds tokens up to the capacity.
     fn add(&mut self, tokens: u64)
         ensures { self.new ≡ add tokens self.old }
     {
-        let fitting = tokens.min(self.capacity.saturating_sub(self.available));
-        let Some(granted) = self.granted.checked_add(fitting) else {
+        let fitting = tokens.min(self.terms.capacity.saturating_sub(self.state.available));
+        let Some(granted) = self.state.granted.checked_add(fitting) else {
             return;
         };
-        if self.capacity.checked_add(granted).is_none() {
+        if self.terms.capacity.checked_add(granted).is_none() {
             return;
         }
-        self.available += fitting;
-        self.granted = granted;
+        self.state.available += fitting;
+        self.state.granted = granted;
     }
 
     // Takes the whole tokens out of the fraction and adds them. At most steps there are none.
     fn convert(&mut self)
         ensures { self.new ≡ convert self.old }
     {
-        if self.fraction < THOUSANDTHS {
+        if self.state.fraction < THOUSANDTHS {
             return;
         }
-        let tokens = self.fraction / THOUSANDTHS;
-        self.fraction %= THOUSANDTHS;
+        let tokens = self.state.fraction / THOUSANDTHS;
+        self.state.fraction %= THOUSANDTHS;
         self.add(tokens);
     }
 }
@@ -368,6 +302,6 @@ impl Default for TokenBucket {
     ghost is_default = { λ b. b ≡ plain_book 500 };
 
     fn default() -> TokenBucket {
-        TokenBucket::plain(DEFAULT_CAPACITY)
+        TokenBucket::open(BucketTerms::default())
     }
 }

@@ -2,14 +2,12 @@
 use Rattle.std.proofs.Common.{◌≡◌, ◌∙◌, ap, sym, ℕ, Bool, true, false, if◌then◌else◌, List, slice_index}
 use Rattle.smithy_types.specs.declared.kinds.ErrorKind.{ErrorKind}
 use Rattle.retry_quota.specs.declared.state.BucketTerms.{BucketTerms}
-use Rattle.retry_quota.specs.Book.{cost_of, sums_of}
+use Rattle.retry_quota.specs.Book.{book_from, cost_of, state_in, sums_of}
 use Rattle.retry_quota.specs.History.{Reply, Granted, Refused, Done, Level, Seen, Acquire, is_granted, end_of}
-use Rattle.retry_quota.specs.State.{book_from, state_in}
 use Rattle.retry_quota.proofs.BookLemmas.{cost-terms, terms-end_of}
 use Rattle.retry_quota_cell.specs.View.{View}
 use Rattle.retry_quota_cell.specs.Rule.{book_in, terms_at, Adds, Looks}
 use Rattle.retry_quota_cell.specs.Known.{Sees}
-use Rattle.retry_quota_cell.proofs.Moves.{terms_in-end_of}
 
 abbrev granted_in : Reply → ℕ
 granted_in (Granted n) = n
@@ -40,7 +38,7 @@ granted_cost kind second v w amount a =
 pub sees : (v w : View) (terms : BucketTerms) (words : List ℕ) → terms ≡ terms_at v → Looks v words w → Sees v (sums_of (book_in terms words)) (slice_index words 6) w
 sees v w terms words same s =
     let b = end_of v.opening.book w.seen in
-    let is : book_in terms words ≡ b = ap (book_in terms) s.words_are.1 ∙ ap (λ k. book_from k (state_in b)) (same ∙ sym (terms_in-end_of w.seen v.opening.book)) in
+    let is : book_in terms words ≡ b = ap (book_in terms) s.words_are.1 ∙ ap (λ k. book_from k (state_in b)) (same ∙ sym (terms-end_of w.seen v.opening.book)) in
     record {
       same = s.same;
       grown = s.grown;

@@ -8,8 +8,7 @@ use Rattle.crossbeam_utils.specs.Register.{Turns, Forks, Merges}
 use Rattle.atomic_table.proofs.Lists.{at_set, at_snoc, set_again}
 use Rattle.retry_quota_cell.specs.View.{Opening, Fresh, Live, View}
 use Rattle.retry_quota.specs.declared.state.BucketTerms.{BucketTerms}
-use Rattle.retry_quota.specs.Book.{Book, Terms, IsSound}
-use Rattle.retry_quota.specs.State.{book_from, terms_in, state_in}
+use Rattle.retry_quota.specs.Book.{Book, IsSound, book_from, terms_in, state_in}
 use Rattle.retry_quota.proofs.BookLemmas.{terms-end_of}
 use Rattle.retry_quota.specs.History.{Step, Reply, Entry, after, reply_to, IsLegal, end_of}
 use Rattle.retry_quota_cell.specs.Rule.{newcomer, spent, opened, told, longer, united, looked, entered, with_parts, entry, words_of, with_pool, book_in, terms_at, total, times, below, AreAll, AreBegun, Fits, Opened, Kept, Begins, Looks, Loaded, Adds, Made, PutsOut, TakesIn, Counted}
@@ -87,20 +86,6 @@ holds_if : {X : Type 0} → (P : X → Type 0) (t : Bool) (x y : X) → (t ≡ t
 holds_if P true x y first second = first refl
 holds_if P false x y first second = second
 
-abbrev terms_under : Terms → BucketTerms
-terms_under t = record {
-  capacity = t.capacity;
-  retry_cost = t.retry_cost;
-  throttling_retry_cost = t.throttling_cost;
-  timeout_retry_cost = t.transient_cost;
-  success_reward = t.reward;
-  refill_rate = t.rate;
-}
-
--- no history changes the terms
-pub terms_in-end_of : (log : List Entry) (b : Book) → terms_in (end_of b log) ≡ terms_in b
-terms_in-end_of log b = ap terms_under (terms-end_of log b)
-
 add : (step : Step) (by : ℕ) (v : View) (x new : List ℕ) (views : List View) → v.stage ≡ Live → 0 < v.parts → (o : Opened x views) → get_elem? views by ≡ some v
     → IsSound (after step (book_in (terms_at v) x))
     → new ≡ words_of (after step (book_in (terms_at v) x)) (slice_index x 6 + 1) (slice_index x 7)
@@ -112,7 +97,7 @@ add step by v x new views live some_part o at sound new_is =
     let w = entered v (o.log ++ e ∷ []) (length o.log) in
     let fits = o.each by v at in
     let same : v.opening ≡ o.opening = fits.opening live in
-    let terms : terms_at v ≡ terms_in b = ap (λ (k : Opening). terms_in k.book) same ∙ sym (terms_in-end_of o.log o.opening.book) in
+    let terms : terms_at v ≡ terms_in b = ap (λ (k : Opening). terms_in k.book) same ∙ sym (terms-end_of o.log o.opening.book) in
     let book : book_in (terms_at v) x ≡ b = ap (book_in (terms_at v)) o.words_are ∙ ap (λ k. book_from k (state_in b)) terms in
     let reply_is : reply ≡ reply_to step b = ap (reply_to step) book in
     let count : slice_index x 6 ≡ length o.log = ap (λ l. slice_index l 6) o.words_are in
@@ -427,5 +412,5 @@ took_none v x w (inr a) = let more = a.0 in absurd (omega arith)
 pub found_sound : (v w : View) (terms : BucketTerms) (words : List ℕ) → Looks v words w → terms ≡ terms_at v → IsSound (book_in terms words)
 found_sound v w terms words s same =
     let b = end_of v.opening.book w.seen in
-    let is : book_in terms words ≡ b = ap (book_in terms) s.words_are.1 ∙ ap (λ k. book_from k (state_in b)) (same ∙ sym (terms_in-end_of w.seen v.opening.book)) in
+    let is : book_in terms words ≡ b = ap (book_in terms) s.words_are.1 ∙ ap (λ k. book_from k (state_in b)) (same ∙ sym (terms-end_of w.seen v.opening.book)) in
     subst IsSound (sym is) s.sound

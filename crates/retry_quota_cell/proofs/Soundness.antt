@@ -2,7 +2,8 @@
 use Rattle.std.proofs.Common.{◌≡◌, refl, ap, subst, sym, ℕ, ◌+◌, ◌/◌, ◌%◌, ◌^◌, ◌<◌, ◌≤◌, Bool, true, false, if◌then◌else◌, nat_lt}
 use Rattle.std.proofs.lemmas.Bool.{ltb-true}
 use Rattle.retry_quota.specs.declared.TheConstants.{MAXIMUM_CAPACITY}
-use Rattle.retry_quota.specs.Book.{Book, Terms, IsSound, cost_of, refill, add, convert, ready, spend, fitting}
+use Rattle.retry_quota.specs.declared.state.BucketTerms.{BucketTerms}
+use Rattle.retry_quota.specs.Book.{Book, IsSound, cost_of, refill, add, convert, ready, spend, fitting}
 use Rattle.retry_quota.specs.History.{Step, Acquire, Release, Forget, Reward, Regenerate, Convert, Look, after, is_granted}
 use Rattle.retry_quota.proofs.BookLemmas.{terms-after, balanced-after}
 
@@ -40,7 +41,7 @@ counted-after Look b h = h
 
 pub sound-after : (step : Step) (b : Book) → IsSound b → IsSound (after step b)
 sound-after step b s = record {
-  bounded = subst (λ (n : ℕ). n ≤ MAXIMUM_CAPACITY) (sym (ap (λ (t : Terms). t.capacity) (terms-after step b))) s.bounded;
+  bounded = subst (λ (n : ℕ). n ≤ MAXIMUM_CAPACITY) (sym (ap (λ (t : BucketTerms). t.capacity) (terms-after step b))) s.bounded;
   balanced = balanced-after step b s.balanced;
   counted = counted-after step b s.counted;
 }

@@ -1,6 +1,7 @@
 -- What the quota of one caller means.
-use Rattle.std.specs.Prelude.{◌≡◌, ◌==◌, Some, None, [], ◌∷◌}
+use Rattle.std.specs.Prelude.{◌≡◌, Some}
 use Rattle.retry_quota.specs.Book.{cost_of}
+use Rattle.retry_quota.specs.Caller.{CallerMeaning, one_bucket}
 use Rattle.retry_quota.specs.Meaning.{Meaning}
 use Rattle.retry_quota_cell.specs.Known.{Known, Place, IsOf}
 use Rattle.retry_quota_cell.specs.Callers.{own, IsOrdered}
@@ -16,15 +17,15 @@ pub record IsAlone (bucket : Place) (pass : Known) : Type 0 where
   pub one : pass.view.parts ≡ 1
   pub ordered : IsOrdered pass.view
 
--- one bucket for every partition, and the caller's own limiter; the steps that the pass made are told, books aren't
-abbrev pub caller_meaning : {L : Type 0} → Place → Caller L → Meaning L
-caller_meaning place c = record {
-  has = λ bucket. bucket == 0;
-  cost = λ bucket kind. cost_of kind place.opening.book;
-  reward = λ bucket. place.opening.book.reward;
-  books = None;
+-- what the quota of one caller is: what its bucket says, the steps that its pass made, and its own limiter
+abbrev pub caller_part : {L : Type 0} → Place → Caller L → CallerMeaning L
+caller_part place c = record {
+  cost = λ kind. cost_of kind place.opening.book;
+  reward = place.opening.book.reward;
   entries = Some (own c.pass.view);
-  limiters = c.limiter ∷ [];
-  bucket_of = λ partition. Some 0;
-  limiter_of = λ partition. Some 0;
+  limiter = c.limiter;
 }
+
+-- and what it means as a quota
+abbrev pub caller_meaning : {L : Type 0} → Place → Caller L → Meaning L
+caller_meaning place c = one_bucket (caller_part place c)

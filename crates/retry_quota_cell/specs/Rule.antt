@@ -8,8 +8,7 @@ use lib.ListN.{get_elem?}
 use Rattle.retry_quota_cell.specs.View.{Opening, Fresh, Live, Spent, View}
 use Rattle.retry_quota.specs.declared.state.BucketTerms.{BucketTerms}
 use Rattle.retry_quota.specs.declared.state.BucketState.{BucketState}
-use Rattle.retry_quota.specs.Book.{Book, IsSound, plain_book}
-use Rattle.retry_quota.specs.State.{book_from, terms_in}
+use Rattle.retry_quota.specs.Book.{Book, IsSound, book_from, plain_book, terms_in}
 use Rattle.retry_quota.specs.History.{Step, Reply, Entry, after, reply_to, IsLegal, end_of}
 
 -- stands for an opening where there is none

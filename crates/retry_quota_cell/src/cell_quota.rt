@@ -5,9 +5,8 @@ ghost use Rattle.retry_quota_cell.specs.Callers.{HasMade, own};
 ghost use Rattle.retry_quota_cell.specs.Caller.{IsAlone};
 
 use crate::cell_bucket::{CellBucket, Pass};
-use retry_quota::{Limiter, Permit, Quota, RequestReason, Sums};
-use smithy_types::{ErrorKind, OutOfMemory, RetryPartition, RetrySpec};
-use std::alloc::Global;
+use retry_quota::{CallerQuota, Limiter, Permit, RequestReason};
+use smithy_types::ErrorKind;
 use std::marker::{Brand, Model, PhantomData};
 use std::sync::Wait;
 
@@ -26,8 +25,8 @@ impl At for Brand {
 }
 
 /// A caller's quota. Its bucket 0 is the shared bucket, which serves every partition, and its
-/// limiter 0 is the caller's own. It tells the steps that its pass made, with their replies, and no
-/// books.
+/// limiter 0 is the caller's own (`CallerQuota`). It tells the steps that its pass made, with their
+/// replies, and no books.
 #[derive(Drop)]
 pub struct CellQuota<'a, B: At, M: Limiter, R: Wait> {
     rt: &'a R,
@@ -77,111 +76,56 @@ impl<'a, B: At, M: Limiter, R: Wait> CellQuota<'a, B, M, R> {
     }
 }
 
-impl<'a, B: At, M: Limiter, R: Wait> Quota for CellQuota<'a, B, M, R> {
-    ghost use Rattle.retry_quota_cell.specs.Caller.{caller_meaning};
-
-    type Permit = Permit;
+impl<'a, B: At, M: Limiter, R: Wait> CallerQuota for CellQuota<'a, B, M, R> {
+    ghost use Rattle.retry_quota_cell.specs.Caller.{caller_part};
 
     type Limiter = M;
 
-    ghost meaning = { caller_meaning B.place };
+    ghost means = { caller_part B.place };
 
-    ghost permit_bucket = { λ p. p.bucket };
-
-    ghost permit_amount = { λ p. p.amount };
-
-    fn has(&self, bucket: u32) -> bool {
-        bucket == 0
-    }
-
-    fn acquire(&mut self, _bucket: u32, kind: ErrorKind, now_secs: u64) -> Option<Permit> {
+    fn pay(&mut self, kind: ErrorKind, now_secs: u64) -> Option<Permit> {
         let rt = self.rt;
         let bucket = self.bucket;
         bucket.acquire(rt, &mut self.pass, kind, now_secs)
     }
 
-    fn release(&mut self, permit: Permit) {
-        if permit.bucket == 0 {
-            let rt = self.rt;
-            let bucket = self.bucket;
-            bucket.release(rt, &mut self.pass, permit);
-        }
+    fn give_back(&mut self, permit: Permit) {
+        let rt = self.rt;
+        let bucket = self.bucket;
+        bucket.release(rt, &mut self.pass, permit);
     }
 
-    fn forget(&mut self, permit: Permit) {
-        if permit.bucket == 0 {
-            let rt = self.rt;
-            let bucket = self.bucket;
-            bucket.forget(rt, &mut self.pass, permit);
-        }
+    fn give_up(&mut self, permit: Permit) {
+        let rt = self.rt;
+        let bucket = self.bucket;
+        bucket.forget(rt, &mut self.pass, permit);
     }
 
-    fn reward_success(&mut self, _bucket: u32) {
+    fn credit(&mut self) {
         let rt = self.rt;
         let bucket = self.bucket;
         bucket.reward_success(rt, &mut self.pass);
     }
 
-    fn regenerate_a_token(&mut self, _bucket: u32) {
+    fn add_token(&mut self) {
         let rt = self.rt;
         let bucket = self.bucket;
         bucket.regenerate_a_token(rt, &mut self.pass);
     }
 
-    fn success_reward(&self, _bucket: u32) -> u64 {
+    fn reward(&self) -> u64 {
         self.bucket.success_reward()
     }
 
-    fn cost(&self, _bucket: u32, kind: ErrorKind) -> u32 {
+    fn price(&self, kind: ErrorKind) -> u32 {
         self.bucket.cost(kind)
     }
 
-    fn sums(&self, _bucket: u32) -> Option<Sums> {
-        None
+    fn ask_limiter(&mut self, now: u64, reason: RequestReason) -> Result<(), u64> {
+        self.limiter.acquire(now, reason)
     }
 
-    fn bucket_for(
-        &mut self,
-        _alloc: Global,
-        partition: &RetryPartition,
-        _spec: Option<&RetrySpec>,
-    ) -> Result<u32, OutOfMemory> {
-        match partition.custom {
-            Some(numbers) => Ok(numbers.bucket),
-            None => Ok(0),
-        }
+    fn tell_limiter(&mut self, now: u64, throttled: bool) {
+        self.limiter.update(now, throttled);
     }
-
-    fn limiter_for(
-        &mut self,
-        _alloc: Global,
-        partition: &RetryPartition,
-        _now: u64,
-    ) -> Result<u32, OutOfMemory> {
-        match partition.custom {
-            Some(numbers) => Ok(numbers.limiter),
-            None => Ok(0),
-        }
-    }
-
-    fn limiter_acquire(
-        &mut self,
-        limiter: u32,
-        now: u64,
-        reason: RequestReason,
-    ) -> Result<(), u64> {
-        if limiter == 0 {
-            self.limiter.acquire(now, reason)
-        } else {
-            Ok(())
-        }
-    }
-
-    fn limiter_update(&mut self, limiter: u32, now: u64, throttled: bool) {
-        if limiter == 0 {
-            self.limiter.update(now, throttled);
-        }
-    }
-
-    ghost told = { λ q. tt };
 }

@@ -1,25 +1,10 @@
 -- What goes back under the lock after a step is the book that the step leaves.
 use Rattle.std.proofs.Common.{◌≡◌, ◌∙◌, ap, sym, ℕ}
 use Rattle.retry_quota.specs.declared.state.BucketTerms.{BucketTerms}
-use Rattle.retry_quota.specs.Book.{Book, Terms}
+use Rattle.retry_quota.specs.Book.{Book, book_from, terms_in, state_in}
 use Rattle.retry_quota.specs.History.{Step, after}
-use Rattle.retry_quota.specs.State.{book_from, terms_in, state_in}
 use Rattle.retry_quota.proofs.BookLemmas.{terms-after}
 use Rattle.retry_quota_locked.specs.Stake.{with_capacity, locked_book}
-
-abbrev terms_under : Terms → BucketTerms
-terms_under t = record {
-  capacity = t.capacity;
-  retry_cost = t.retry_cost;
-  throttling_retry_cost = t.throttling_cost;
-  timeout_retry_cost = t.transient_cost;
-  success_reward = t.reward;
-  refill_rate = t.rate;
-}
-
--- no step changes the terms
-pub terms_in-after : (step : Step) (b : Book) → terms_in (after step b) ≡ terms_in b
-terms_in-after step b = ap terms_under (terms-after step b)
 
 -- a book with these terms is made of them and of its own state
 pub put_back : (t : BucketTerms) (capacity : ℕ) (b : Book) → terms_in b ≡ with_capacity t capacity → locked_book t capacity (state_in b) ≡ b
@@ -27,7 +12,7 @@ put_back t capacity b same = ap (λ k. book_from k (state_in b)) (sym same)
 
 -- the terms after a step on the book that lay under the lock
 pub still : (t : BucketTerms) (step : Step) (a b : Book) (capacity : ℕ) → terms_in a ≡ with_capacity t capacity → b ≡ after step a → terms_in b ≡ with_capacity t capacity
-still t step a b capacity same made = ap terms_in made ∙ terms_in-after step a ∙ same
+still t step a b capacity same made = ap terms_in made ∙ terms-after step a ∙ same
 
 -- the book that a step leaves
 pub stepped : (step : Step) (found a b left : Book) → a ≡ found → b ≡ after step a → left ≡ b → left ≡ after step found

@@ -1,12 +1,11 @@
 -- What a handle on a shared bucket stands for.
-use Rattle.std.specs.Prelude.{◌≡◌, ℕ, ◌+◌, ◌^◌, ◌<◌, ◌≤◌, ◌-◌, nat_le, if◌then◌else◌, ◌==◌, None, Some, [], ◌∷◌}
+use Rattle.std.specs.Prelude.{◌≡◌, ℕ, ◌+◌, ◌^◌, ◌<◌, ◌≤◌, ◌-◌, nat_le, if◌then◌else◌, None}
 use Rattle.retry_quota.specs.declared.TheConstants.{MAXIMUM_CAPACITY}
 use Rattle.smithy_types.specs.declared.sums.Sums.{Sums}
 use Rattle.retry_quota.specs.declared.state.BucketTerms.{BucketTerms}
 use Rattle.retry_quota.specs.declared.state.BucketState.{BucketState}
-use Rattle.retry_quota.specs.Book.{Book}
-use Rattle.retry_quota.specs.State.{book_from, cost_under}
-use Rattle.retry_quota.specs.Meaning.{Meaning}
+use Rattle.retry_quota.specs.Book.{Book, book_from, cost_under}
+use Rattle.retry_quota.specs.Caller.{CallerMeaning}
 
 -- what one handle has of a shared bucket, and the terms that it charges by
 pub record Stake : Type 0 where
@@ -36,17 +35,13 @@ pub record AreWhole (amount : ℕ) (s : Sums) : Type 0 where
   pub held : s.held ≡ amount
   pub spent : amount ≡ 0 → s.available + s.forgotten ≡ s.capacity + s.granted
 
--- one bucket for every partition, and the caller's own limiter; neither books nor steps are told
-abbrev pub caller_meaning : {L : Type 0} → BucketTerms → L → Meaning L
-caller_meaning t limiter = record {
-  has = λ bucket. bucket == 0;
-  cost = λ bucket kind. cost_under kind t;
-  reward = λ bucket. t.success_reward;
-  books = None;
+-- what the quota of one caller means: what the terms say, and the caller's own limiter; no steps are told
+abbrev pub caller_part : {L : Type 0} → BucketTerms → L → CallerMeaning L
+caller_part t limiter = record {
+  cost = λ kind. cost_under kind t;
+  reward = t.success_reward;
   entries = None;
-  limiters = limiter ∷ [];
-  bucket_of = λ partition. Some 0;
-  limiter_of = λ partition. Some 0;
+  limiter = limiter;
 }
 
 -- what is left of an amount once a permit is spent; a permit of more than the amount takes nothing from it

@@ -12,8 +12,7 @@ ghost use Rattle.retry_quota.specs.History.{
   Regenerate,
   Convert,
 };
-ghost use Rattle.retry_quota.specs.Book.{is_empty, is_full, sums_of};
-ghost use Rattle.retry_quota.specs.State.{cost_under, terms_in};
+ghost use Rattle.retry_quota.specs.Book.{cost_under, is_empty, is_full, sums_of, terms_in};
 ghost use Rattle.retry_quota_locked.specs.Stake.{locked_book, with_capacity, AreSound, AreWhole};
 
 use crate::steps;

@@ -2,7 +2,7 @@
 ghost use Rattle.std.specs.Prelude.{◌≡◌, ◌+◌, ◌<◌, ◌≤◌, if◌then◌else◌, nat_le, ◌-◌, IfOk, IfSome};
 ghost use Rattle.std.specs.Prelude.{OnErr};
 ghost use Rattle.std.specs.Option.{IfNone};
-ghost use Rattle.retry_quota.specs.State.{cost_under, terms_in};
+ghost use Rattle.retry_quota.specs.Book.{cost_under, terms_in};
 ghost use Rattle.retry_quota_locked.specs.Stake.{less, AreWhole};
 
 use crate::locked::Locked;

@@ -1,7 +1,6 @@
 use Rattle.std.proofs.Common.{◌<◌, rules, ap, sym, ◌∙◌, subst, slice_index, ℕ, ◌+◌}
 use Rattle.crossbeam_utils.specs.Seq.{cell_view}
-use Rattle.retry_quota.specs.Book.{Book, IsSound}
-use Rattle.retry_quota.specs.State.{book_from, terms_in}
+use Rattle.retry_quota.specs.Book.{Book, IsSound, book_from, terms_in}
 use Rattle.retry_quota.specs.History.{Step, Reply, after, reply_to}
 use Rattle.retry_quota_cell.specs.View.{View}
 use Rattle.retry_quota_cell.specs.Rule.{terms_at, words_of, Adds}

@@ -1,8 +1,7 @@
 use Rattle.std.proofs.Common.{◌∙◌, sym, ap, rules, subst, slice_index}
 use Rattle.crossbeam_utils.specs.Seq.{cell_view}
-use Rattle.retry_quota.specs.State.{terms_in}
 use Rattle.retry_quota_cell.specs.View.{View, Opening}
-use Rattle.retry_quota.specs.Book.{sums_of}
+use Rattle.retry_quota.specs.Book.{sums_of, terms_in}
 use Rattle.retry_quota_cell.specs.Rule.{book_in}
 use Rattle.retry_quota_cell.specs.Known.{Known, Place, Sees}
 use Rattle.retry_quota_cell.proofs.Moves.{loads}
