@@ -1,42 +1,25 @@
-//! Schemes and identity resolvers that a caller brings in boxes, beside the crate's own.
+//! Schemes and identity resolvers that a caller brings in boxes.
 ghost use Rattle.std.specs.Prelude.{◌≡◌, IfOk, OnErr};
 
-use crate::no_auth::NoAuthScheme;
 use crate::scheme::{AuthScheme, Signed};
-use identity_cell::{IdentityPoll, NoAuthIdentityResolver, ResolveIdentity};
+use identity_cell::{IdentityPoll, ResolveIdentity};
 use smithy_types::{Endpoint, HttpRequest, Identity, OutOfMemory};
 use std::alloc::Global;
 
-/// The scheme that signs nothing, or one that the caller brings.
+/// A scheme of any type, in a box.
 #[derive(Drop)]
-pub enum SharedAuthScheme {
-    /// Signs nothing.
-    NoAuth(NoAuthScheme),
-    /// The caller's.
-    Boxed(Box<dyn AuthScheme>),
+pub struct SharedAuthScheme {
+    /// The scheme.
+    pub boxed: Box<dyn AuthScheme>,
 }
 
 impl AuthScheme for SharedAuthScheme {
-    ghost use Rattle.std.specs.Prelude.{◌≡◌, codes};
-    ghost use Rattle.auth_endpoint.specs.declared.scheme.Signed.TheVariants.{Request};
-    ghost use Rattle.auth_endpoint.specs.declared.shared.SharedAuthScheme.TheVariants.{NoAuth};
-    ghost use Rattle.auth_endpoint.specs.declared.shared.SharedAuthScheme.TheVariants.{Boxed};
+    ghost names = { λ s. (AuthScheme-box s.boxed).names s.boxed.value };
 
-    ghost names = { elim [
-      | NoAuth _ ↦ codes "noAuth"
-      | Boxed b ↦ (AuthScheme-box b).names b.value
-    ] };
-
-    ghost signs = { elim [
-      | NoAuth _ ↦ (λ request _ _ signed. signed ≡ Request request)
-      | Boxed b ↦ (AuthScheme-box b).signs b.value
-    ] };
+    ghost signs = { λ s. (AuthScheme-box s.boxed).signs s.boxed.value };
 
     fn id(&self) -> &str {
-        match self {
-            SharedAuthScheme::NoAuth(scheme) => scheme.id(),
-            SharedAuthScheme::Boxed(scheme) => scheme.id(),
-        }
+        self.boxed.id()
     }
 
     fn sign(
@@ -46,20 +29,15 @@ impl AuthScheme for SharedAuthScheme {
         identity: &Identity,
         endpoint: &Endpoint,
     ) -> Result<Signed, OutOfMemory> {
-        match self {
-            SharedAuthScheme::NoAuth(scheme) => scheme.sign(alloc, request, identity, endpoint),
-            SharedAuthScheme::Boxed(scheme) => scheme.sign(alloc, request, identity, endpoint),
-        }
+        self.boxed.sign(alloc, request, identity, endpoint)
     }
 }
 
-/// The resolver of the identity of nobody, or one that the caller brings.
+/// A resolver of any type, in a box.
 #[derive(Drop)]
-pub enum SharedIdentityResolver {
-    /// Resolves the identity of nobody.
-    NoAuth(NoAuthIdentityResolver),
-    /// The caller's.
-    Boxed(Box<dyn ResolveIdentity>),
+pub struct SharedIdentityResolver {
+    /// The resolver.
+    pub boxed: Box<dyn ResolveIdentity>,
 }
 
 // One ask through a box.
@@ -77,23 +55,13 @@ fn poll_box(
 }
 
 impl ResolveIdentity for SharedIdentityResolver {
-    ghost use Rattle.std.specs.Prelude.{◌≡◌, [], None};
-    ghost use Rattle.outside.specs.declared.answers.IdentityPoll.TheVariants.{Ready};
-    ghost use Rattle.auth_endpoint.specs.declared.shared.SharedIdentityResolver.TheVariants.{NoAuth};
-    ghost use Rattle.auth_endpoint.specs.declared.shared.SharedIdentityResolver.TheVariants.{Boxed};
+    ghost use Rattle.std.specs.Prelude.{◌≡◌};
 
-    ghost polls = { λ old answer new. elim old [
-      | NoAuth r ↦ (answer ≡ Ready (record { content = []; expiration = None }))
-          × (new ≡ NoAuth r)
-      | Boxed b ↦ (v : _)
-          × (new ≡ Boxed (record b { value = v }))
-          × (ResolveIdentity-box b).polls b.value answer v
-    ] };
+    ghost polls = { λ old answer new. (v : _)
+        × (new ≡ record old { boxed = record old.boxed { value = v } })
+        × (ResolveIdentity-box old.boxed).polls old.boxed.value answer v };
 
     fn poll(&mut self, alloc: Global) -> Result<IdentityPoll, OutOfMemory> {
-        match self {
-            SharedIdentityResolver::NoAuth(resolver) => resolver.poll(alloc),
-            SharedIdentityResolver::Boxed(boxed) => poll_box(boxed, alloc),
-        }
+        poll_box(&mut self.boxed, alloc)
     }
 }

@@ -3,7 +3,7 @@ use Rattle.std.specs.Prelude.{ℕ, zero, suc, Bool, true, false, List, [], ◌++
 use Rattle.std.specs.Prelude.{is_some, nat_eq}
 use Rattle.std.specs.List.{flat_map}
 use Rattle.smithy_context.specs.Layer.{entry, merged, put_entry}
-use Rattle.smithy_context.specs.Setting.{key_of, place}
+use Rattle.smithy_context.specs.Setting.{key_of, place, places}
 use Rattle.smithy_context.specs.declared.layer.LayerEntry.{LayerEntry}
 use Rattle.smithy_context.specs.declared.setting.Setting.{Setting}
 use Rattle.smithy_context.specs.declared.setting.Setting.TheVariants as set
@@ -23,7 +23,7 @@ first_placed (suc n) l = first_placed n l ++ filter (is_placed n) l
 
 -- a layer's entries in the order of settings
 abbrev pub in_order : List LayerEntry → List LayerEntry
-in_order l = first_placed 17 l
+in_order l = first_placed places l
 
 -- ---- what is set
 

@@ -2,7 +2,6 @@
 ghost use Rattle.std.specs.Prelude.{◌≡◌, ◌++◌, ◌∷◌, [], IfErr, IfOk};
 ghost use Rattle.client_builder.specs.Builder.{brought_source};
 ghost use Rattle.client_builder.specs.declared.scheme.Scheme.TheVariants.{Brought};
-ghost use Rattle.auth_endpoint.specs.declared.shared.SharedAuthScheme.TheVariants.{Boxed};
 
 use crate::room::room_for_one;
 use crate::{IdentityResolver, OperationBuilder, Plugin, Scheme};
@@ -166,13 +165,13 @@ impl<I, O, E, R: ResolveIdentity, Z, D> OperationBuilder<I, O, E, SharedAuthSche
         scheme: Box<dyn AuthScheme>,
     ) -> Result<Self, (Self, Box<dyn AuthScheme>, OutOfMemory)>
         ensures ok { IfOk result (λ b. b ≡
-            record self { schemes = self.schemes ++ Brought (Boxed scheme) ∷ [] }) }
+            record self { schemes = self.schemes ++ Brought (record { boxed = scheme }) ∷ [] }) }
         ensures handed_back { IfErr result (λ back. (back.0 ≡ self) × (back.1 ≡ scheme)) }
     {
         let list = mem::replace(&mut self.schemes, List::new());
         match room_for_one(alloc, list) {
             Ok(mut items) => {
-                items.push_reserved(Scheme::Brought(SharedAuthScheme::Boxed(scheme)));
+                items.push_reserved(Scheme::Brought(SharedAuthScheme { boxed: scheme }));
                 self.schemes = List::from_vec(items);
                 Ok(self)
             }

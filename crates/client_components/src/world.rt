@@ -11,7 +11,6 @@ use smithy_types::{List, OutOfMemory};
 use std::alloc::Global;
 
 /// A client's parts, with the log of what they were asked.
-#[derive(Drop)]
 pub struct RuntimeComponents<T: ClientTypes> {
     /// What it answers from.
     pub parts: Parts<T>,
@@ -19,7 +18,22 @@ pub struct RuntimeComponents<T: ClientTypes> {
     pub log: List<Entry>,
 }
 
+// Written out, so that a drop is one call wherever a client's world is dropped.
+impl<T: ClientTypes> Drop for RuntimeComponents<T> {
+    fn drop(self) {
+        let RuntimeComponents { parts: _, log: _ } = self;
+    }
+}
+
 impl<T: ClientTypes> RuntimeComponents<T> {
+    /// What it answers from, without the log.
+    pub fn into_parts(self) -> Parts<T>
+        ensures { result ≡ self.parts }
+    {
+        let RuntimeComponents { parts, log: _ } = self;
+        parts
+    }
+
     /// What it was asked and answered, in order.
     pub fn entries(&self) -> &List<Entry>
         ensures { result.now ≡ self.now.log }

@@ -12,7 +12,7 @@ use Rattle.orchestrate.specs.declared.point.Point.TheVariants.{AtConfigureOperat
 use Rattle.orchestrate.specs.declared.point.Point.TheVariants.{AtStartOperationFailed, AtStartOperation}
 use Rattle.orchestrate.specs.declared.point.Point.TheVariants.{AtCutReadAfterAttempt}
 use Rattle.orchestrate.specs.declared.point.Point.TheVariants as points
-use Rattle.smithy_types.specs.declared.hook.Hook.TheVariants as hooks
+use Rattle.smithy_types.specs.Hooks.{of_attempt, of_operation, part_of}
 use Rattle.orchestrate.specs.declared.stage.Armed.{Armed}
 use Rattle.orchestrate.specs.declared.stage.Place.{Place}
 use Rattle.run_grammar.specs.declared.answer.Entry.{Entry}
@@ -56,39 +56,27 @@ asks_at p CutByOperation = abandon_of (kind_at p)
 
 -- whether the point lies where the attempt's deadline can cut
 abbrev pub is_in_attempt : Point → Bool
-is_in_attempt (points.Hook hooks.ReadBeforeAttempt) = true
+is_in_attempt (points.Hook h) = of_attempt (part_of h)
 is_in_attempt AtChoose = true
 is_in_attempt AtEndpoint = true
 is_in_attempt AtApply = true
-is_in_attempt (points.Hook hooks.ModifyBeforeSigning) = true
-is_in_attempt (points.Hook hooks.ReadBeforeSigning) = true
 is_in_attempt AtSign = true
-is_in_attempt (points.Hook hooks.ReadAfterSigning) = true
-is_in_attempt (points.Hook hooks.ModifyBeforeTransmit) = true
-is_in_attempt (points.Hook hooks.ReadBeforeTransmit) = true
 is_in_attempt AtTransmit = true
-is_in_attempt (points.Hook hooks.ReadAfterTransmit) = true
-is_in_attempt (points.Hook hooks.ModifyBeforeDeserialization) = true
-is_in_attempt (points.Hook hooks.ReadBeforeDeserialization) = true
 is_in_attempt AtStream = true
 is_in_attempt AtBody = true
 is_in_attempt AtDeserialize = true
-is_in_attempt (points.Hook hooks.ReadAfterDeserialization) = true
 is_in_attempt _ = false
 
 -- whether the point lies where the operation's deadline can cut
 abbrev pub is_in_operation : Point → Bool
+is_in_operation (points.Hook h) = of_operation (part_of h)
 is_in_operation AtConfigureClient = false
-is_in_operation (points.Hook hooks.ReadBeforeExecutionClient) = false
 is_in_operation AtConfigureOperation = false
-is_in_operation (points.Hook hooks.ReadBeforeExecutionOperation) = false
 is_in_operation AtConfigureFinal = false
 is_in_operation AtStartOperationFailed = false
 is_in_operation AtStartOperation = false
 is_in_operation AtCutModifyBeforeAttemptCompletion = false
 is_in_operation AtCutReadAfterAttempt = false
-is_in_operation (points.Hook hooks.ModifyBeforeCompletion) = false
-is_in_operation (points.Hook hooks.ReadAfterExecution) = false
 is_in_operation _ = true
 
 -- what is asked first after Pending: the innermost deadline that is armed there, and a park where none is

@@ -30,6 +30,9 @@ use Rattle.orchestrate.specs.declared.point.Point.TheVariants.{AtTokenWaitSend, 
 use Rattle.orchestrate.specs.declared.point.Point.TheVariants.{AtWaitSend}
 use Rattle.orchestrate.specs.declared.point.Point.TheVariants as points
 use Rattle.smithy_types.specs.declared.hook.Hook.TheVariants as hooks
+use Rattle.smithy_types.specs.declared.hook.RunPart.{RunPart}
+use Rattle.smithy_types.specs.declared.hook.RunPart.TheVariants as parts
+use Rattle.smithy_types.specs.Hooks.{part_of}
 use Rattle.run_grammar.specs.declared.kind.Role.TheVariants.{Attempt, LongPoll, Operation, Retry, Send}
 use Rattle.run_grammar.specs.declared.kind.ConfigureStage.TheVariants as stages
 use Rattle.smithy_types.specs.declared.kinds.StopPoint.TheVariants as stops
@@ -292,37 +295,31 @@ operation_scope m = cond m.operation (Operation ∷ []) []
 abbrev pub attempt_scope : Armed → List Role
 attempt_scope m = cond m.attempt (Attempt ∷ operation_scope m) (operation_scope m)
 
+-- the deadlines that are armed in a part of a run
+abbrev pub part_scope : Armed → RunPart → List Role
+part_scope m parts.Configuration = []
+part_scope m parts.Attempt = attempt_scope m
+part_scope m parts.Finish = []
+part_scope m _ = operation_scope m
+
 -- the deadlines that are armed at the point
 abbrev pub scope_at : Armed → Point → List Role
+scope_at m (points.Hook h) = part_scope m (part_of h)
 scope_at m AtConfigureClient = []
-scope_at m (points.Hook hooks.ReadBeforeExecutionClient) = []
 scope_at m AtConfigureOperation = []
-scope_at m (points.Hook hooks.ReadBeforeExecutionOperation) = []
 scope_at m AtConfigureFinal = []
 scope_at m AtStartOperationFailed = []
 scope_at m AtStartOperation = []
-scope_at m (points.Hook hooks.ReadBeforeAttempt) = attempt_scope m
 scope_at m AtChoose = attempt_scope m
 scope_at m AtEndpoint = attempt_scope m
 scope_at m AtApply = attempt_scope m
-scope_at m (points.Hook hooks.ModifyBeforeSigning) = attempt_scope m
-scope_at m (points.Hook hooks.ReadBeforeSigning) = attempt_scope m
 scope_at m AtSign = attempt_scope m
-scope_at m (points.Hook hooks.ReadAfterSigning) = attempt_scope m
-scope_at m (points.Hook hooks.ModifyBeforeTransmit) = attempt_scope m
-scope_at m (points.Hook hooks.ReadBeforeTransmit) = attempt_scope m
 scope_at m AtTransmit = attempt_scope m
-scope_at m (points.Hook hooks.ReadAfterTransmit) = attempt_scope m
-scope_at m (points.Hook hooks.ModifyBeforeDeserialization) = attempt_scope m
-scope_at m (points.Hook hooks.ReadBeforeDeserialization) = attempt_scope m
 scope_at m AtStream = attempt_scope m
 scope_at m AtBody = attempt_scope m
 scope_at m AtDeserialize = attempt_scope m
-scope_at m (points.Hook hooks.ReadAfterDeserialization) = attempt_scope m
 scope_at m AtCutModifyBeforeAttemptCompletion = []
 scope_at m AtCutReadAfterAttempt = []
-scope_at m (points.Hook hooks.ModifyBeforeCompletion) = []
-scope_at m (points.Hook hooks.ReadAfterExecution) = []
 scope_at m _ = operation_scope m
 
 -- the place at this point

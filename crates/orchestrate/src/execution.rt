@@ -67,7 +67,7 @@ pub fn invoke<W: World>(
         HandedOn W.relates world.old world.new (W.calls world.old) (W.calls world.new) }
 {
     match run(alloc, world, input, StopPoint::None, fuel)? {
-        Some(standing) => outcome(standing.context),
+        Some(standing) => outcome(standing.into_context()),
         None => Err(InvokeError::Unfinished),
     }
 }
@@ -90,7 +90,7 @@ pub fn invoke_with_stop_point<W: World>(
         HandedOn W.relates world.old world.new (W.calls world.old) (W.calls world.new) }
 {
     match run(alloc, world, input, stop, fuel)? {
-        Some(standing) => stopped(standing.context),
+        Some(standing) => stopped(standing.into_context()),
         None => Err(InvokeError::Unfinished),
     }
 }

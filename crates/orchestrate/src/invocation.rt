@@ -24,13 +24,24 @@ use std::alloc::Global;
 use std::marker::Model;
 
 /// A run of an operation: what stands in it, and where it stands. It never sees the log.
-#[derive(Drop)]
 pub struct Invocation {
     stop: StopPoint,
     standing: Standing,
     stage: Stage,
     // Whether memory ran out in it. It then asks nothing more.
     lost: bool,
+}
+
+// Written out, so that a drop is one call wherever a run is dropped.
+impl Drop for Invocation {
+    fn drop(self) {
+        let Invocation {
+            stop: _,
+            standing: _,
+            stage: _,
+            lost: _,
+        } = self;
+    }
 }
 
 impl Model for Invocation {
@@ -129,7 +140,7 @@ impl Invocation {
         }
         match self.point() {
             Some(_) => Err(InvokeError::Unfinished),
-            None => outcome(self.into_standing().context),
+            None => outcome(self.into_standing().into_context()),
         }
     }
 
@@ -145,7 +156,7 @@ impl Invocation {
         }
         match self.point() {
             Some(_) => Err(InvokeError::Unfinished),
-            None => stopped(self.into_standing().context),
+            None => stopped(self.into_standing().into_context()),
         }
     }
 
@@ -160,7 +171,13 @@ impl Invocation {
     pub(crate) fn into_standing(self) -> Standing
         ensures { result ≡ self.standing }
     {
-        self.standing
+        let Invocation {
+            stop: _,
+            standing,
+            stage: _,
+            lost: _,
+        } = self;
+        standing
     }
 
     // Asks the question of the point, and takes the answer in.

@@ -11,11 +11,21 @@ use std::alloc::{AllocError, Global};
 use std::marker::PhantomData;
 
 /// An operation with input `I`, output `O` and modelled error `E`.
-#[derive(Drop)]
 pub struct Operation<I, O, E> {
     service_name: Text,
     operation_name: Text,
     types: PhantomData<(I, O, E)>,
+}
+
+// Written out, so that a drop is one call wherever an operation is dropped.
+impl<I, O, E> Drop for Operation<I, O, E> {
+    fn drop(self) {
+        let Operation {
+            service_name: _,
+            operation_name: _,
+            types: _,
+        } = self;
+    }
 }
 
 impl<I: Wire + Drop, O: Wire + Drop, E: Wire + Drop> Operation<I, O, E> {

@@ -87,24 +87,15 @@ pub fn is_in_attempt(point: Point) -> bool
     ensures { result ≡ is_in_attempt point }
 {
     match point {
-        Point::Hook(Hook::ReadBeforeAttempt)
-        | Point::AtChoose
+        Point::Hook(hook) => hook.part().is_attempt(),
+        Point::AtChoose
         | Point::AtEndpoint
         | Point::AtApply
-        | Point::Hook(Hook::ModifyBeforeSigning)
-        | Point::Hook(Hook::ReadBeforeSigning)
         | Point::AtSign
-        | Point::Hook(Hook::ReadAfterSigning)
-        | Point::Hook(Hook::ModifyBeforeTransmit)
-        | Point::Hook(Hook::ReadBeforeTransmit)
         | Point::AtTransmit
-        | Point::Hook(Hook::ReadAfterTransmit)
-        | Point::Hook(Hook::ModifyBeforeDeserialization)
-        | Point::Hook(Hook::ReadBeforeDeserialization)
         | Point::AtStream
         | Point::AtBody
-        | Point::AtDeserialize
-        | Point::Hook(Hook::ReadAfterDeserialization) => true,
+        | Point::AtDeserialize => true,
         _ => false,
     }
 }
@@ -114,17 +105,14 @@ pub fn is_in_operation(point: Point) -> bool
     ensures { result ≡ is_in_operation point }
 {
     match point {
+        Point::Hook(hook) => hook.part().is_operation(),
         Point::AtConfigureClient
-        | Point::Hook(Hook::ReadBeforeExecutionClient)
         | Point::AtConfigureOperation
-        | Point::Hook(Hook::ReadBeforeExecutionOperation)
         | Point::AtConfigureFinal
         | Point::AtStartOperationFailed
         | Point::AtStartOperation
         | Point::AtCutModifyBeforeAttemptCompletion
-        | Point::AtCutReadAfterAttempt
-        | Point::Hook(Hook::ModifyBeforeCompletion)
-        | Point::Hook(Hook::ReadAfterExecution) => false,
+        | Point::AtCutReadAfterAttempt => false,
         _ => true,
     }
 }

@@ -25,7 +25,6 @@ const NO_RECORD: &str = "no more responses";
 const NO_SOURCE: &str = "no identity source";
 
 /// An outside whose clock moves only by `park`, and by a response that sets it.
-#[derive(Drop)]
 pub struct ScriptedOutside {
     /// The present moment.
     pub moment: u64,
@@ -43,6 +42,22 @@ pub struct ScriptedOutside {
     pub load: Option<OpenLoad>,
     /// How many failures were handed out. The count stands still at the greatest u64.
     pub faults: u64,
+}
+
+// Written out, so that a drop is one call wherever an outside is dropped.
+impl Drop for ScriptedOutside {
+    fn drop(self) {
+        let ScriptedOutside {
+            moment: _,
+            words: _,
+            records: _,
+            identities: _,
+            sleeps: _,
+            call: _,
+            load: _,
+            faults: _,
+        } = self;
+    }
 }
 
 impl ScriptedOutside {

@@ -10,6 +10,7 @@ use Rattle.run_grammar.specs.declared.kind.Kind.{Kind}
 use Rattle.run_grammar.specs.declared.kind.Kind.TheVariants as kinds
 use Rattle.run_grammar.specs.declared.answer.Entry.{Entry}
 use Rattle.run_grammar.specs.Entry.{kind_of, pending, ready, can_wait, abandon_of}
+use Rattle.run_grammar.specs.Scopes.{hook_of_attempt}
 
 -- what a question is to the watcher
 pub data Class : Type 0 where
@@ -33,20 +34,11 @@ pub data Class : Type 0 where
 
 abbrev pub hook_class : Hook → Class
 hook_class hooks.ReadBeforeAttempt = Begins
-hook_class hooks.ModifyBeforeSigning = Within
-hook_class hooks.ReadBeforeSigning = Within
-hook_class hooks.ReadAfterSigning = Within
-hook_class hooks.ModifyBeforeTransmit = Within
-hook_class hooks.ReadBeforeTransmit = Within
-hook_class hooks.ReadAfterTransmit = Within
-hook_class hooks.ModifyBeforeDeserialization = Within
-hook_class hooks.ReadBeforeDeserialization = Within
-hook_class hooks.ReadAfterDeserialization = Within
 hook_class hooks.ModifyBeforeAttemptCompletion = Modifies
 hook_class hooks.ReadAfterAttempt = Reads
 hook_class hooks.ModifyBeforeCompletion = Finalizes
 hook_class hooks.ReadAfterExecution = Concludes
-hook_class _ = Other
+hook_class h = cond (hook_of_attempt h) Within Other
 
 abbrev pub class_of : Kind → Class
 class_of (kinds.Hook h) = hook_class h

@@ -1,5 +1,6 @@
 -- Nothing of its scope follows a deadline that is over.
 use Rattle.std.specs.Prelude.{Bool, true, false, cond, Option, None, Some, List, [], ◌∷◌, ◌++◌, ◌≡◌}
+use Rattle.smithy_types.specs.Hooks.{of_attempt, part_of}
 use Rattle.smithy_types.specs.declared.hook.Hook.{Hook}
 use Rattle.smithy_types.specs.declared.hook.Hook.TheVariants as hooks
 use Rattle.smithy_types.specs.declared.kinds.StopPoint.{StopPoint}
@@ -14,19 +15,9 @@ use Rattle.run_grammar.specs.Standing.{State}
 use Rattle.run_grammar.specs.Laws.{IsWhole}
 use Rattle.run_grammar.specs.Attempts.{asked_of, begins_attempt, up_to_attempt}
 
--- the questions of an attempt: from read_before_attempt to read_after_deserialization, with the Wait of its deadline
+-- the hooks of an attempt: from read_before_attempt to read_after_deserialization
 abbrev pub hook_of_attempt : Hook → Bool
-hook_of_attempt hooks.ReadBeforeAttempt = true
-hook_of_attempt hooks.ModifyBeforeSigning = true
-hook_of_attempt hooks.ReadBeforeSigning = true
-hook_of_attempt hooks.ReadAfterSigning = true
-hook_of_attempt hooks.ModifyBeforeTransmit = true
-hook_of_attempt hooks.ReadBeforeTransmit = true
-hook_of_attempt hooks.ReadAfterTransmit = true
-hook_of_attempt hooks.ModifyBeforeDeserialization = true
-hook_of_attempt hooks.ReadBeforeDeserialization = true
-hook_of_attempt hooks.ReadAfterDeserialization = true
-hook_of_attempt _ = false
+hook_of_attempt h = of_attempt (part_of h)
 
 -- what a deadline can give up in an attempt
 abbrev pub abandoned_of_attempt : Abandonable → Bool
@@ -36,7 +27,7 @@ abandoned_of_attempt abandoned.Transmit = true
 abandoned_of_attempt abandoned.Body = true
 abandoned_of_attempt _ = false
 
--- whether the question is one of an attempt
+-- whether the question is one of an attempt, the Wait of its deadline among them
 abbrev pub is_of_attempt : Kind → Bool
 is_of_attempt (kinds.Hook h) = hook_of_attempt h
 is_of_attempt kinds.Choose = true

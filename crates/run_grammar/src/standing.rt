@@ -14,7 +14,6 @@ use smithy_types::{
 use std::alloc::Global;
 
 /// What stands in a run: the context that interceptors see, and what only the engine reads.
-#[derive(Drop)]
 pub struct Standing {
     /// What interceptors see, the phase and the checkpoint.
     pub context: InterceptorContext,
@@ -32,6 +31,21 @@ pub struct Standing {
     pub attempt_deadline: Option<u64>,
 }
 
+// Written out, so that a drop is one call wherever what stands is dropped.
+impl Drop for Standing {
+    fn drop(self) {
+        let Standing {
+            context: _,
+            scheme: _,
+            identity: _,
+            endpoint: _,
+            delay: _,
+            operation_deadline: _,
+            attempt_deadline: _,
+        } = self;
+    }
+}
+
 impl Standing {
     /// What stands at a run's start: the input, and nothing else.
     pub fn new(alloc: Global, input: Payload) -> Result<Standing, OutOfMemory>
@@ -46,6 +60,22 @@ impl Standing {
             operation_deadline: None,
             attempt_deadline: None,
         })
+    }
+
+    /// The context alone, which is moved and not copied.
+    pub fn into_context(self) -> InterceptorContext
+        ensures { result ≡ self.context }
+    {
+        let Standing {
+            context,
+            scheme: _,
+            identity: _,
+            endpoint: _,
+            delay: _,
+            operation_deadline: _,
+            attempt_deadline: _,
+        } = self;
+        context
     }
 
     /// How long the sleep of this role is, in nanoseconds: the standing timeout of that name, or

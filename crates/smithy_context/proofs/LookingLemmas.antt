@@ -1,58 +1,55 @@
 -- What a key holds after a put, a merge and a push.
-use Rattle.std.proofs.Common.{arith, Bool, true, false, cond, not, ℕ, suc, ◌+◌, Option, Some, None, is_none, List, [], ◌∷◌, ◌++◌, length, ◌≡◌, refl, sym, ap, ◌∙◌, subst, nat_lt, nat_eq, slice_set, position}
+use Rattle.std.proofs.Common.{arith, Bool, true, false, cond, not, ℕ, suc, ◌+◌, Option, Some, None, is_none, List, [], ◌∷◌, length, ◌≡◌, refl, sym, ap, ◌∙◌, subst, nat_lt, slice_set, get_or, map}
 use Rattle.std.specs.List.{position_or_len}
 use Rattle.std.proofs.lemmas.Bool.{ltb_from_iff, ltb-true, lt-ltb}
-use Rattle.std.specs.Cmp.Lexicographic.{pointwise, same_text}
-use Rattle.std.proofs.lemmas.Cmp.{nat_list_eq_equiv}
+use Rattle.std.specs.Cmp.Lexicographic.{same_text}
+use Rattle.smithy_context.specs.contracts.setting.SettingKeyEq.TheImpl.Laws.{laws-law}
 use Rattle.smithy_context.specs.declared.layer.LayerEntry.{LayerEntry}
 use Rattle.smithy_context.specs.declared.setting.SettingKey.{SettingKey}
 use Rattle.smithy_context.specs.declared.setting.SettingKey.TheVariants as keys
-use Rattle.smithy_context.specs.Setting.{same_key}
+use Rattle.smithy_context.specs.Setting.{key_table, same_key}
 use Rattle.smithy_context.specs.Layer.{entry_at, is_at, keys_once, placed, put_entry, merged}
-use Rattle.smithy_context.specs.Settings.{or_else, last_entry, loaded, with_layer, with_merged}
-use Rattle.smithy_context.specs.StandingLayers.{StandingLayers}
+use Rattle.smithy_context.specs.Settings.{or_else, last_entry}
 use Rattle.smithy_context.specs.Looking.{PutsOne, KeepsKeysOnce, MergesOver, MergedComesFirst, PushedComesSecond, value_in}
 use Rattle.smithy_context.proofs.SettingsLemmas.{or_else-assoc, last_entry-append}
 
--- keys that are one are equal, and a key is one with itself
-same_is : (a b : SettingKey) → same_key a b ≡ true → a ≡ b
-same_is keys.Timeouts keys.Timeouts h = refl
-same_is keys.Retry keys.Retry h = refl
-same_is keys.Stall keys.Stall h = refl
-same_is keys.LoadBody keys.LoadBody h = refl
-same_is keys.Partition keys.Partition h = refl
-same_is keys.Bucket keys.Bucket h = refl
-same_is keys.Prefix keys.Prefix h = refl
-same_is keys.Preference keys.Preference h = refl
-same_is keys.V2 keys.V2 h = refl
-same_is keys.EndpointParams keys.EndpointParams h = refl
-same_is keys.AuthParams keys.AuthParams h = refl
-same_is keys.EnforceLength keys.EnforceLength h = refl
-same_is keys.Disable keys.Disable h = refl
-same_is keys.Capture keys.Capture h = refl
-same_is keys.Poisoned keys.Poisoned h = refl
-same_is keys.Upload keys.Upload h = refl
-same_is (keys.User a) (keys.User b) h = ap keys.User (same_text a b (sym h))
-same_is _ _ h = absurd (cc)
+-- the key at a place of the table, and behind the last one the caller's own key of this name
+abbrev key_at : ℕ → List ℕ → SettingKey
+key_at n own = get_or (map (λ (row : SettingKey × List ℕ). row.0) key_table) n (keys.User own)
 
-same_self : (a : SettingKey) → same_key a a ≡ true
-same_self keys.Timeouts = refl
-same_self keys.Retry = refl
-same_self keys.Stall = refl
-same_self keys.LoadBody = refl
-same_self keys.Partition = refl
-same_self keys.Bucket = refl
-same_self keys.Prefix = refl
-same_self keys.Preference = refl
-same_self keys.V2 = refl
-same_self keys.EndpointParams = refl
-same_self keys.AuthParams = refl
-same_self keys.EnforceLength = refl
-same_self keys.Disable = refl
-same_self keys.Capture = refl
-same_self keys.Poisoned = refl
-same_self keys.Upload = refl
-same_self (keys.User a) = nat_list_eq_equiv.refl a
+-- what the caller named a key
+abbrev own_name : SettingKey → List ℕ
+own_name (keys.User name) = name
+own_name _ = []
+
+abbrev row_place : SettingKey → ℕ
+row_place k = position_or_len (λ (row : SettingKey × List ℕ). same_key row.0 k) key_table
+
+-- a key is known by its place and by what the caller named it
+at_its_place : (k : SettingKey) → key_at (row_place k) (own_name k) ≡ k
+at_its_place (keys.User name) = refl
+at_its_place _ = refl
+
+same_row : (a b : SettingKey) → same_key a b ≡ true → (row : SettingKey × List ℕ) → same_key row.0 a ≡ same_key row.0 b
+same_row a b h row = laws-law.symm row.0 a ∙ laws-law.congr a b row.0 h ∙ laws-law.symm b row.0
+
+same_place : (a b : SettingKey) → same_key a b ≡ true → row_place a ≡ row_place b
+same_place a b h = λ i. position_or_len (λ (row : SettingKey × List ℕ). same_row a b h row i) key_table
+
+same_own : (a b : SettingKey) → same_key a b ≡ true → own_name a ≡ own_name b
+same_own (keys.User a) (keys.User b) h = same_text a b (sym h)
+same_own (keys.User a) _ h = absurd (cc)
+same_own _ (keys.User b) h = absurd (cc)
+same_own _ _ h = refl
+
+-- keys that are one are equal, and a key is one with itself
+pub same_is : (a b : SettingKey) → same_key a b ≡ true → a ≡ b
+same_is a b h =
+    sym (at_its_place a) ∙ ap (λ (n : ℕ). key_at n (own_name a)) (same_place a b h)
+    ∙ ap (λ (own : List ℕ). key_at (row_place b) own) (same_own a b h) ∙ at_its_place b
+
+pub same_self : (a : SettingKey) → same_key a a ≡ true
+same_self a = laws-law.refl a
 
 -- keys that are not one aren't, in either order
 other_back : (a b : SettingKey) → same_key a b ≡ false → same_key b a ≡ false

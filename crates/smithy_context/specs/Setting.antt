@@ -1,6 +1,8 @@
--- What a setting is known by.
-use Rattle.std.specs.Prelude.{ℕ, Bool, true, false, List, nat_eq, codes}
+-- What a setting is known by, and the table of keys.
+use Rattle.std.specs.Prelude.{ℕ, suc, Bool, cond, List, [], ◌∷◌, Option, None, Some, nat_eq, codes, length}
+use Rattle.std.specs.List.{position_or_len}
 use Rattle.std.specs.Cmp.Lexicographic.{pointwise}
+use Rattle.smithy_context.specs.contracts.setting.SettingKeyPartialEq.TheImpl as key_eq
 use Rattle.smithy_context.specs.declared.setting.Setting.{Setting}
 use Rattle.smithy_context.specs.declared.setting.Setting.TheVariants as settings
 use Rattle.smithy_context.specs.declared.setting.SettingKey.{SettingKey}
@@ -26,63 +28,55 @@ key_of (settings.Poisoned value) = keys.Poisoned
 key_of settings.Upload = keys.Upload
 key_of (settings.User name value) = keys.User name
 
--- whether two keys are one; the caller's own keys are told apart by their names
+-- whether two keys are one, which is what `==` tells; the caller's own keys are told apart by their names
 abbrev pub same_key : SettingKey → SettingKey → Bool
-same_key keys.Timeouts keys.Timeouts = true
-same_key keys.Retry keys.Retry = true
-same_key keys.Stall keys.Stall = true
-same_key keys.LoadBody keys.LoadBody = true
-same_key keys.Partition keys.Partition = true
-same_key keys.Bucket keys.Bucket = true
-same_key keys.Prefix keys.Prefix = true
-same_key keys.Preference keys.Preference = true
-same_key keys.V2 keys.V2 = true
-same_key keys.EndpointParams keys.EndpointParams = true
-same_key keys.AuthParams keys.AuthParams = true
-same_key keys.EnforceLength keys.EnforceLength = true
-same_key keys.Disable keys.Disable = true
-same_key keys.Capture keys.Capture = true
-same_key keys.Poisoned keys.Poisoned = true
-same_key keys.Upload keys.Upload = true
-same_key (keys.User a) (keys.User b) = pointwise nat_eq a b
-same_key _ _ = false
+same_key = (key_eq.ghosts).eq
+
+-- ---- the table of keys
+
+-- each key but the caller's own, with its name in scripts and prints, in the order of settings
+abbrev pub key_table : List (SettingKey × List ℕ)
+key_table =
+    (keys.Timeouts, codes "timeouts")
+    ∷ (keys.Retry, codes "retry")
+    ∷ (keys.Stall, codes "stall")
+    ∷ (keys.LoadBody, codes "load_body")
+    ∷ (keys.Partition, codes "partition")
+    ∷ (keys.Bucket, codes "bucket")
+    ∷ (keys.Prefix, codes "prefix")
+    ∷ (keys.Preference, codes "preference")
+    ∷ (keys.V2, codes "v2")
+    ∷ (keys.EndpointParams, codes "endpoint_params")
+    ∷ (keys.AuthParams, codes "auth_params")
+    ∷ (keys.EnforceLength, codes "enforce_length")
+    ∷ (keys.Disable, codes "disable")
+    ∷ (keys.Capture, codes "capture")
+    ∷ (keys.Poisoned, codes "poisoned")
+    ∷ (keys.Upload, codes "upload")
+    ∷ []
+
+-- the name beside a key in these rows, and `user` where it is in none
+abbrev pub name_in : List (SettingKey × List ℕ) → SettingKey → List ℕ
+name_in [] k = codes "user"
+name_in (row ∷ rows) k = cond (same_key row.0 k) row.1 (name_in rows k)
+
+-- the key beside a name in these rows
+abbrev pub key_in : List (SettingKey × List ℕ) → List ℕ → Option SettingKey
+key_in [] name = None
+key_in (row ∷ rows) name = cond (pointwise nat_eq name row.1) (Some row.0) (key_in rows name)
 
 -- a key's name in scripts and prints: the caller's own keys share one, and have their own behind it
-abbrev pub key_name : SettingKey → List ℕ
-key_name keys.Timeouts = codes "timeouts"
-key_name keys.Retry = codes "retry"
-key_name keys.Stall = codes "stall"
-key_name keys.LoadBody = codes "load_body"
-key_name keys.Partition = codes "partition"
-key_name keys.Bucket = codes "bucket"
-key_name keys.Prefix = codes "prefix"
-key_name keys.Preference = codes "preference"
-key_name keys.V2 = codes "v2"
-key_name keys.EndpointParams = codes "endpoint_params"
-key_name keys.AuthParams = codes "auth_params"
-key_name keys.EnforceLength = codes "enforce_length"
-key_name keys.Disable = codes "disable"
-key_name keys.Capture = codes "capture"
-key_name keys.Poisoned = codes "poisoned"
-key_name keys.Upload = codes "upload"
-key_name (keys.User name) = codes "user"
+unfoldable pub key_name : SettingKey → List ℕ
+key_name k = name_in key_table k
 
--- a key's place in the order of settings: those of the caller's own come last
-abbrev pub place : SettingKey → ℕ
-place keys.Timeouts = 0
-place keys.Retry = 1
-place keys.Stall = 2
-place keys.LoadBody = 3
-place keys.Partition = 4
-place keys.Bucket = 5
-place keys.Prefix = 6
-place keys.Preference = 7
-place keys.V2 = 8
-place keys.EndpointParams = 9
-place keys.AuthParams = 10
-place keys.EnforceLength = 11
-place keys.Disable = 12
-place keys.Capture = 13
-place keys.Poisoned = 14
-place keys.Upload = 15
-place (keys.User name) = 16
+-- the key of the table that has this name
+unfoldable pub key_named : List ℕ → Option SettingKey
+key_named name = key_in key_table name
+
+-- a key's place in the order of settings, from 0 on: those of the caller's own come last, and share one
+unfoldable pub place : SettingKey → ℕ
+place k = position_or_len (λ (row : SettingKey × List ℕ). same_key row.0 k) key_table
+
+-- how many places there are: one for each row of the table, and one for the caller's own keys
+abbrev pub places : ℕ
+places = suc (length key_table)

@@ -2,7 +2,7 @@
 ghost use Rattle.std.specs.Prelude.{◌≡◌, [], ◌==◌, true, length, IfSome, ◌<◌, IfOk, OnOk, OnErr};
 ghost use Rattle.std.specs.Prelude.{option_and_then, option_map, option_copied, Some, None, find};
 ghost use Rattle.std.specs.Prelude.{position};
-ghost use Rattle.smithy_context.specs.Setting.{same_key, key_of};
+ghost use Rattle.smithy_context.specs.Setting.{key_of};
 ghost use Rattle.smithy_context.specs.Layer.{mentioned, put_entry, entry, entry_at, is_at};
 ghost use Rattle.smithy_context.specs.Layer.{keys_once, merged};
 
@@ -126,7 +126,7 @@ impl Layer {
     pub fn find(&self, key: &SettingKey) -> Option<&LayerEntry>
         ensures { option_copied result ≡ entry_at self.now key.now }
     {
-        self.entries().iter().find(|entry| entry.key.same(key))
+        self.entries().iter().find(|entry| entry.key == *key)
     }
 
     /// Puts an entry in the place of its key's, or at the end.
@@ -166,7 +166,7 @@ fn place_of(entries: &[LayerEntry], key: &SettingKey) -> Option<usize>
     ensures place { result ≡ position (is_at key.now) entries.now }
     ensures bound { IfSome result (λ i. i < length entries.now) }
 {
-    entries.iter().position(|entry| entry.key.same(key))
+    entries.iter().position(|entry| entry.key == *key)
 }
 
 impl Clone for Layer {

@@ -1,12 +1,12 @@
 //! One setting of a client or an operation.
-ghost use Rattle.std.specs.Prelude.{◌≡◌, IfOk};
-ghost use Rattle.smithy_context.specs.Setting.{key_name, key_of, place, same_key};
+ghost use Rattle.std.specs.Prelude.{◌≡◌, IfOk, drop};
+ghost use Rattle.smithy_context.specs.Setting.{key_in, key_name, key_named, key_of, key_table};
+ghost use Rattle.smithy_context.specs.Setting.{place};
 
 use smithy_types::{
     Blob, List, OutOfMemory, RetryConfig, RetryPartition, StalledStreamProtectionConfig, Text,
     TimeoutConfig,
 };
-use std::alloc::AllocError;
 
 /// A setting with its value. A mark has no value: it is there or it isn't.
 #[derive(Debug, Drop)]
@@ -48,7 +48,7 @@ pub enum Setting {
 }
 
 /// What a setting is known by.
-#[derive(Debug, Drop)]
+#[derive(Clone, Debug, Drop, PartialEq, Eq)]
 pub enum SettingKey {
     /// Of the deadlines.
     Timeouts,
@@ -114,7 +114,8 @@ impl Setting {
 }
 
 impl SettingKey {
-    /// How many places there are in the order of settings.
+    /// How many places there are in the order of settings: one for each key of the table, and one
+    /// for those of the caller's own.
     pub const PLACES: u8 = 17;
 
     /// The key's name in scripts and prints. A key of the caller's own is named `user` here, and
@@ -122,25 +123,7 @@ impl SettingKey {
     pub fn name(&self) -> &'static str
         ensures { result.now ≡ key_name self.now }
     {
-        match self {
-            SettingKey::Timeouts => "timeouts",
-            SettingKey::Retry => "retry",
-            SettingKey::Stall => "stall",
-            SettingKey::LoadBody => "load_body",
-            SettingKey::Partition => "partition",
-            SettingKey::Bucket => "bucket",
-            SettingKey::Prefix => "prefix",
-            SettingKey::Preference => "preference",
-            SettingKey::V2 => "v2",
-            SettingKey::EndpointParams => "endpoint_params",
-            SettingKey::AuthParams => "auth_params",
-            SettingKey::EnforceLength => "enforce_length",
-            SettingKey::Disable => "disable",
-            SettingKey::Capture => "capture",
-            SettingKey::Poisoned => "poisoned",
-            SettingKey::Upload => "upload",
-            SettingKey::User(_) => "user",
-        }
+        self.row().1
     }
 
     /// The key's place in the order of settings, from 0 on. Those of the caller's own come last,
@@ -148,76 +131,84 @@ impl SettingKey {
     pub fn place(&self) -> u8
         ensures { result ≡ place self.now }
     {
+        self.row().0
+    }
+
+    // The table of keys: the place and the name of each.
+    #[tactic(auto, unfolding(crate::specs::Setting::key_name, crate::specs::Setting::place))]
+    fn row(&self) -> (u8, &'static str)
+        ensures place { result.0 ≡ place self.now }
+        ensures name { result.1.now ≡ key_name self.now }
+    {
         match self {
-            SettingKey::Timeouts => 0,
-            SettingKey::Retry => 1,
-            SettingKey::Stall => 2,
-            SettingKey::LoadBody => 3,
-            SettingKey::Partition => 4,
-            SettingKey::Bucket => 5,
-            SettingKey::Prefix => 6,
-            SettingKey::Preference => 7,
-            SettingKey::V2 => 8,
-            SettingKey::EndpointParams => 9,
-            SettingKey::AuthParams => 10,
-            SettingKey::EnforceLength => 11,
-            SettingKey::Disable => 12,
-            SettingKey::Capture => 13,
-            SettingKey::Poisoned => 14,
-            SettingKey::Upload => 15,
-            SettingKey::User(_) => 16,
+            SettingKey::Timeouts => (0, "timeouts"),
+            SettingKey::Retry => (1, "retry"),
+            SettingKey::Stall => (2, "stall"),
+            SettingKey::LoadBody => (3, "load_body"),
+            SettingKey::Partition => (4, "partition"),
+            SettingKey::Bucket => (5, "bucket"),
+            SettingKey::Prefix => (6, "prefix"),
+            SettingKey::Preference => (7, "preference"),
+            SettingKey::V2 => (8, "v2"),
+            SettingKey::EndpointParams => (9, "endpoint_params"),
+            SettingKey::AuthParams => (10, "auth_params"),
+            SettingKey::EnforceLength => (11, "enforce_length"),
+            SettingKey::Disable => (12, "disable"),
+            SettingKey::Capture => (13, "capture"),
+            SettingKey::Poisoned => (14, "poisoned"),
+            SettingKey::Upload => (15, "upload"),
+            SettingKey::User(_) => (16, "user"),
         }
     }
 
-    /// Whether the two are one key.
-    pub fn same(&self, other: &SettingKey) -> bool
-        ensures { result ≡ same_key self.now other.now }
+    /// The key of the table that has this name. None of a key of the caller's own.
+    #[tactic(auto, unfolding(crate::specs::Setting::key_named))]
+    pub fn named(name: &str) -> Option<SettingKey>
+        ensures { result ≡ key_named name.now }
     {
-        match (self, other) {
-            (SettingKey::Timeouts, SettingKey::Timeouts) => true,
-            (SettingKey::Retry, SettingKey::Retry) => true,
-            (SettingKey::Stall, SettingKey::Stall) => true,
-            (SettingKey::LoadBody, SettingKey::LoadBody) => true,
-            (SettingKey::Partition, SettingKey::Partition) => true,
-            (SettingKey::Bucket, SettingKey::Bucket) => true,
-            (SettingKey::Prefix, SettingKey::Prefix) => true,
-            (SettingKey::Preference, SettingKey::Preference) => true,
-            (SettingKey::V2, SettingKey::V2) => true,
-            (SettingKey::EndpointParams, SettingKey::EndpointParams) => true,
-            (SettingKey::AuthParams, SettingKey::AuthParams) => true,
-            (SettingKey::EnforceLength, SettingKey::EnforceLength) => true,
-            (SettingKey::Disable, SettingKey::Disable) => true,
-            (SettingKey::Capture, SettingKey::Capture) => true,
-            (SettingKey::Poisoned, SettingKey::Poisoned) => true,
-            (SettingKey::Upload, SettingKey::Upload) => true,
-            (SettingKey::User(name), SettingKey::User(other_name)) => name == other_name,
-            _ => false,
+        if name == "timeouts" {
+            Some(SettingKey::Timeouts)
+        } else if name == "retry" {
+            Some(SettingKey::Retry)
+        } else if name == "stall" {
+            Some(SettingKey::Stall)
+        } else if name == "load_body" {
+            Some(SettingKey::LoadBody)
+        } else if name == "partition" {
+            Some(SettingKey::Partition)
+        } else if name == "bucket" {
+            Some(SettingKey::Bucket)
+        } else if name == "prefix" {
+            Some(SettingKey::Prefix)
+        } else if name == "preference" {
+            Some(SettingKey::Preference)
+        } else {
+            later_named(name)
         }
     }
 }
 
-impl Clone for SettingKey {
-    ghost is_clone = { λ key copy. copy ≡ key };
-
-    fn clone(&self) -> Result<SettingKey, AllocError> {
-        match self {
-            SettingKey::Timeouts => Ok(SettingKey::Timeouts),
-            SettingKey::Retry => Ok(SettingKey::Retry),
-            SettingKey::Stall => Ok(SettingKey::Stall),
-            SettingKey::LoadBody => Ok(SettingKey::LoadBody),
-            SettingKey::Partition => Ok(SettingKey::Partition),
-            SettingKey::Bucket => Ok(SettingKey::Bucket),
-            SettingKey::Prefix => Ok(SettingKey::Prefix),
-            SettingKey::Preference => Ok(SettingKey::Preference),
-            SettingKey::V2 => Ok(SettingKey::V2),
-            SettingKey::EndpointParams => Ok(SettingKey::EndpointParams),
-            SettingKey::AuthParams => Ok(SettingKey::AuthParams),
-            SettingKey::EnforceLength => Ok(SettingKey::EnforceLength),
-            SettingKey::Disable => Ok(SettingKey::Disable),
-            SettingKey::Capture => Ok(SettingKey::Capture),
-            SettingKey::Poisoned => Ok(SettingKey::Poisoned),
-            SettingKey::Upload => Ok(SettingKey::Upload),
-            SettingKey::User(name) => Ok(SettingKey::User(name.clone()?)),
-        }
+// The same, of the rows behind the eighth.
+fn later_named(name: &str) -> Option<SettingKey>
+    ensures { result ≡ key_in (drop 8 key_table) name.now }
+{
+    if name == "v2" {
+        Some(SettingKey::V2)
+    } else if name == "endpoint_params" {
+        Some(SettingKey::EndpointParams)
+    } else if name == "auth_params" {
+        Some(SettingKey::AuthParams)
+    } else if name == "enforce_length" {
+        Some(SettingKey::EnforceLength)
+    } else if name == "disable" {
+        Some(SettingKey::Disable)
+    } else if name == "capture" {
+        Some(SettingKey::Capture)
+    } else if name == "poisoned" {
+        Some(SettingKey::Poisoned)
+    } else if name == "upload" {
+        Some(SettingKey::Upload)
+    } else {
+        None
     }
 }

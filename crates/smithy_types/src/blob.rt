@@ -15,9 +15,15 @@ const FEW: usize = 24;
 
 /// Bytes that never change. A copy costs the same however long they are: a few stand in the blob
 /// itself and take no memory, and all others are shared.
-#[derive(Drop)]
 pub struct Blob {
     bytes: Content,
+}
+
+// Written out, so that a drop is one call wherever a blob is dropped.
+impl Drop for Blob {
+    fn drop(self) {
+        let Blob { bytes: _ } = self;
+    }
 }
 
 // Few bytes, or shared ones.

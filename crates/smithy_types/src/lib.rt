@@ -34,7 +34,7 @@ pub use config::{
     StalledStreamProtectionConfig, TimeoutConfig,
 };
 pub use fault::{Fault, FaultKind, Outcome, SdkError};
-pub use hook::Hook;
+pub use hook::{Hook, RunPart};
 pub use http::{Body, Headers, HttpRequest, HttpResponse};
 pub use identity::{Endpoint, EndpointHeader, Identity};
 pub use kinds::{ConnectorKind, ErrorKind, Phase, StopPoint};

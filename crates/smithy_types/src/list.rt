@@ -9,9 +9,15 @@ use std::fmt;
 use std::marker::Model;
 
 /// A list. An empty one is made without an allocator, and gets one with its first item.
-#[derive(Drop)]
 pub struct List<T> {
     items: Option<Vec<T>>,
+}
+
+// Written out, so that a drop is one call wherever a list is dropped.
+impl<T: Drop> Drop for List<T> {
+    fn drop(self) {
+        let List { items: _ } = self;
+    }
 }
 
 impl<T> Model for List<T> {
@@ -42,7 +48,8 @@ impl<T> List<T> {
     pub fn into_vec(self, alloc: Global) -> Vec<T>
         ensures { result.items ≡ self }
     {
-        match self.items {
+        let List { items } = self;
+        match items {
             Some(items) => items,
             None => Vec::new(alloc),
         }

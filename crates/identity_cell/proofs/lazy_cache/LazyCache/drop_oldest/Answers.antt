@@ -5,6 +5,3 @@ use Rattle.identity_cell.proofs.lazy_cache.LazyCache.drop_oldest.Goals as goal
 
 pub invariant_of-self : goal.invariant_of-self
 invariant_of-self c = subst (λ s. HaveBuffer c.self.inside.terms.buffer s) (sym c.shift_remove_index.ensures.entries) (rest_buffer c.self.inside.terms.buffer c.self.inside.cells.entries c.self.invariant)
-
-pub invariant_of-self-in-Some-2 : goal.invariant_of-self-in-Some-2
-invariant_of-self-in-Some-2 c = subst (λ s. HaveBuffer c.self.inside.terms.buffer s) (sym c.shift_remove_index.ensures.entries) (rest_buffer c.self.inside.terms.buffer c.self.inside.cells.entries c.self.invariant)

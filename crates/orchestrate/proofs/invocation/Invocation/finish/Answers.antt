@@ -1,5 +1,6 @@
 use Rattle.std.proofs.Common.{Some, arith, sym, subst, ◌∙◌}
 use Rattle.smithy_types.specs.declared.kinds.StopPoint.TheVariants as stops
+use Rattle.orchestrate.specs.Answered.{Answers}
 use Rattle.orchestrate.specs.Stands.{Ran}
 use Rattle.orchestrate.proofs.Ending.{answered_at_end}
 use Rattle.orchestrate.proofs.Running.{progress_lost, ran_unfinished, ran_whole}
@@ -15,4 +16,4 @@ pub returns-in-None : goal.returns-in-None
 returns-in-None c = λ p before log calls q.
     answered_at_end p calls c.into_standing.result c.outcome.result before log
     (subst (λ d. Ran p stops.None calls (Some d) before log) (sym c.into_standing.ensures) (ran_whole p stops.None calls c.args.self before log (sym c.point.ensures ∙ c.in-None.is) q))
-    c.outcome.ensures
+    (subst (λ x. Answers x c.outcome.result) c.into_context.ensures c.outcome.ensures)

@@ -1,4 +1,5 @@
 use Rattle.std.proofs.Common.{Some, arith, sym, subst, ◌∙◌}
+use Rattle.orchestrate.specs.Answered.{Stopped}
 use Rattle.orchestrate.specs.Stands.{Ran}
 use Rattle.orchestrate.proofs.Ending.{stopped_at_end}
 use Rattle.orchestrate.proofs.Running.{progress_lost, ran_unfinished, ran_whole}
@@ -14,4 +15,4 @@ pub returns-in-None : goal.returns-in-None
 returns-in-None c = λ p stop before log calls q.
     stopped_at_end p stop calls c.into_standing.result c.stopped.result before log
     (subst (λ d. Ran p stop calls (Some d) before log) (sym c.into_standing.ensures) (ran_whole p stop calls c.args.self before log (sym c.point.ensures ∙ c.in-None.is) q))
-    c.stopped.ensures
+    (subst (λ x. Stopped x c.stopped.result) c.into_context.ensures c.stopped.ensures)
