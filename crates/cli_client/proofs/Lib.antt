@@ -1,6 +1,4 @@
-pub mod Saying
 pub mod Closing
 pub mod Opened
 pub mod Tallied
 pub mod Markings
-pub mod SayingMoments

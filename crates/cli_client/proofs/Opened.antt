@@ -3,7 +3,7 @@ use Rattle.std.proofs.Common.{◌≡◌, ℕ, ℤ, List, [], subst, sym}
 use Rattle.std.specs.Prelude.{None}
 use Rattle.cli_client.specs.Opening.{IsOpened, outside_at, quota_of}
 use Rattle.cli_client_runs.specs.declared.set.ClientSet.{ClientSet}
-use Rattle.json_scripts.specs.declared.client.terms.BucketTerms.{BucketTerms}
+use Rattle.retry_quota.specs.declared.state.BucketTerms.{BucketTerms}
 use Rattle.json_scripts.specs.declared.client.terms.ClientObject.{ClientObject}
 use Rattle.client_scripted.specs.declared.service.error.ServiceError.{ServiceError}
 use Rattle.client_builder.specs.declared.own_interceptor.OwnInterceptor.{OwnInterceptor}

@@ -1,7 +1,8 @@
 -- What `client` says of its input.
-use Rattle.std.specs.Prelude.{ℕ, ℤ, ◌≡◌, ◌≤◌, ◌<◌, true, false, List}
+use Rattle.std.specs.Prelude.{ℕ, ℤ, ◌≤◌, ◌<◌, List}
 use Rattle.cli_client_runs.specs.declared.set.ClientSet.{ClientSet}
 use Rattle.json_scripts.specs.Client.Limits.{client_script_fits}
+use Rattle.json_scripts.specs.Client.Placed.{IsPlaced}
 use Rattle.json_scripts.specs.Client.Script.{IsClientScript}
 use Rattle.json_scripts.specs.declared.client.script.ClientScript.{ClientScript}
 use Rattle.client_scripted.specs.declared.service.error.ServiceError.{ServiceError}
@@ -11,6 +12,7 @@ use Rattle.run_grammar.specs.declared.answer.Entry.{Entry}
 use Rattle.client_scripted.specs.Clients.{ServiceWorld}
 use Rattle.smithy_base.specs.declared.intercept.Slot.{Slot}
 use Rattle.cli_shell.specs.Said.{Said, prints, refuses}
+use Rattle.cli_shell.specs.Scripts.{ScriptMeaning, bytes_say}
 use Rattle.cli_shell.specs.declared.status.PrintStatus.{PrintStatus}
 use Rattle.cli_shell.specs.declared.status.Refusal.TheVariants as refusals
 use Rattle.json_scripts.specs.Workload.Made.{made_script}
@@ -46,21 +48,18 @@ IsClientRun script text outcome = IsToldOf reports.Print script text outcome
 abbrev pub IsMade : ℕ → ℕ → List ℕ → PrintStatus → Type 0
 IsMade count seed text outcome = IsToldOf (reports.Counts count seed) (made_script count seed) text outcome
 
--- what it says of a script: the print of its invocations where it is within its limits
-abbrev pub script_says : ClientScript → Said → Type 0
-script_says s (prints outcome text) = (client_script_fits s ≡ true) × IsClientRun s text outcome
-script_says s (refuses refusals.TooLarge) = client_script_fits s ≡ false
-script_says s (refuses refusals.BadScript) = ⊥
-script_says s (refuses refusals.NotBuilt) = ⊥
+-- what the scripts of `client` are, and what is printed of each
+abbrev pub client_means : ScriptMeaning ClientScript
+client_means = record {
+  is_script = IsClientScript;
+  is_sound = IsPlaced;
+  fits = client_script_fits;
+  is_print = IsClientRun;
+}
 
--- The bytes are a script and it says this of it, or they are none.
+-- The bytes are a script, of which this is its print or which is past its limits; or they are none.
 abbrev pub client_says : List ℕ → Said → Type 0
-client_says bytes (prints outcome text) =
-    (s : ClientScript) × IsClientScript bytes s × script_says s (prints outcome text)
-client_says bytes (refuses refusals.TooLarge) =
-    (s : ClientScript) × IsClientScript bytes s × script_says s (refuses refusals.TooLarge)
-client_says bytes (refuses refusals.BadScript) = (s : ClientScript) → IsClientScript bytes s → ⊥
-client_says bytes (refuses refusals.NotBuilt) = ⊥
+client_says = bytes_say client_means
 
 -- at most a thousand invocations are made
 abbrev pub make_says : ℕ → ℕ → Said → Type 0

@@ -1,26 +1,20 @@
 -- What `client --moments` says of its input.
-use Rattle.std.specs.Prelude.{ℕ, ◌≡◌, true, false, List}
-use Rattle.json_scripts.specs.Client.Limits.{client_script_fits}
-use Rattle.json_scripts.specs.Client.Script.{IsClientScript}
+use Rattle.std.specs.Prelude.{ℕ, List}
 use Rattle.json_scripts.specs.declared.client.script.ClientScript.{ClientScript}
-use Rattle.cli_shell.specs.Said.{Said, prints, refuses}
-use Rattle.cli_shell.specs.declared.status.Refusal.TheVariants as refusals
-use Rattle.cli_client.specs.Client.{IsClientRun}
+use Rattle.cli_shell.specs.Said.{Said}
+use Rattle.cli_shell.specs.Scripts.{ScriptMeaning, bytes_say}
+use Rattle.cli_shell.specs.declared.status.PrintStatus.{PrintStatus}
+use Rattle.cli_client.specs.Client.{IsClientRun, client_means}
 use Rattle.cli_client.specs.Marked.{IsMarked}
 
--- of a script: what `client` prints of it, with lines that tell moments
-abbrev pub script_says : ClientScript → Said → Type 0
-script_says s (prints outcome text) =
-    (client_script_fits s ≡ true) × (print : List ℕ) × IsClientRun s print outcome × IsMarked print text
-script_says s (refuses refusals.TooLarge) = client_script_fits s ≡ false
-script_says s (refuses refusals.BadScript) = ⊥
-script_says s (refuses refusals.NotBuilt) = ⊥
+-- what `client` prints of a script, with lines that tell moments
+abbrev pub IsMarkedRun : ClientScript → List ℕ → PrintStatus → Type 0
+IsMarkedRun script text outcome = (print : List ℕ) × IsClientRun script print outcome × IsMarked print text
 
--- The bytes are a script and it says this of it, or they are none.
+-- the scripts are those of `client`
+abbrev pub moments_means : ScriptMeaning ClientScript
+moments_means = record client_means { is_print = IsMarkedRun }
+
+-- The bytes are a script, of which this is its print with moments or which is past its limits; or they are none.
 abbrev pub moments_says : List ℕ → Said → Type 0
-moments_says bytes (prints outcome text) =
-    (s : ClientScript) × IsClientScript bytes s × script_says s (prints outcome text)
-moments_says bytes (refuses refusals.TooLarge) =
-    (s : ClientScript) × IsClientScript bytes s × script_says s (refuses refusals.TooLarge)
-moments_says bytes (refuses refusals.BadScript) = (s : ClientScript) → IsClientScript bytes s → ⊥
-moments_says bytes (refuses refusals.NotBuilt) = ⊥
+moments_says = bytes_say moments_means

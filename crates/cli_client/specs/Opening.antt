@@ -1,16 +1,16 @@
 -- What stands before a script's first invocation.
 use Rattle.std.specs.Prelude.{◌≡◌, ℕ, ℤ, List, [], map, None}
 use Rattle.cli_client_runs.specs.declared.set.ClientSet.{ClientSet}
-use Rattle.json_scripts.specs.declared.client.terms.BucketTerms.{BucketTerms}
+use Rattle.retry_quota.specs.declared.state.BucketTerms.{BucketTerms}
 use Rattle.json_scripts.specs.declared.client.terms.ClientObject.{ClientObject}
 use Rattle.client_scripted.specs.declared.service.error.ServiceError.{ServiceError}
 use Rattle.client_builder.specs.declared.own_interceptor.OwnInterceptor.{OwnInterceptor}
 use Rattle.rate_limit.specs.Pace.{Pace}
 use Rattle.retry_policy.specs.declared.classify.Classifier.{Classifier}
+use Rattle.retry_quota.specs.Book.{book_of}
 use Rattle.retry_quota.specs.Registers.{Registers}
 use Rattle.outside_scripted.specs.declared.call.OpenCall.TheVariants.{Idle}
 use Rattle.outside_scripted.specs.declared.scripted_outside.ScriptedOutside.{ScriptedOutside}
-use Rattle.client_scripted.specs.Buckets.{book_of}
 use Rattle.client_scripted.specs.Clients.{AreBuilt}
 use Rattle.smithy_base.specs.declared.intercept.Slot.{Slot}
 

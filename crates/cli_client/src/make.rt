@@ -10,7 +10,7 @@ use cli_shell::command::{Answer, Telling};
 use cli_shell::status::Refusal;
 use json_scripts::workload::made_script;
 use smithy_types::OutOfMemory;
-use std::alloc::{AllocError, Global};
+use std::alloc::Global;
 
 /// The most invocations that are made.
 const MOST_INVOCATIONS: u64 = 1000;
@@ -30,14 +30,12 @@ impl Telling for MakeCommand {
 
     ghost tells = { λ make s. make_says make.count make.seed s };
 
-    fn tell(&self, alloc: Global) -> Result<Answer, AllocError> {
+    fn tell(&self, alloc: Global) -> Result<Answer, OutOfMemory> {
         if self.count > MOST_INVOCATIONS {
             return Ok(Answer::Refusal(Refusal::TooLarge));
         }
-        match played(alloc, self.count, self.seed) {
-            Ok(answer) => Ok(answer),
-            Err(OutOfMemory) => Err(AllocError),
-        }
+        let answer = played(alloc, self.count, self.seed)?;
+        Ok(answer)
     }
 }
 

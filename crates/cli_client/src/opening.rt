@@ -2,19 +2,18 @@
 ghost use Rattle.std.specs.Prelude.{◌≡◌, IfOk};
 ghost use Rattle.cli_client.specs.Opening.{quota_of};
 
-use client_scripted::{ClientQuota, bucket_of};
-use json_scripts::client::BucketTerms;
-use retry_quota::Registry;
+use client_scripted::ClientQuota;
+use retry_quota::{BucketTerms, Registry, TokenBucket};
 use smithy_types::OutOfMemory;
 use std::alloc::Global;
 
 /// The registry of these buckets, each under its place in the script.
-pub(crate) fn open_quota(alloc: Global, terms: &[BucketTerms]) -> Result<ClientQuota, OutOfMemory>
+pub fn open_quota(alloc: Global, terms: &[BucketTerms]) -> Result<ClientQuota, OutOfMemory>
     ensures { IfOk result (λ quota. quota ≡ quota_of terms.now) }
 {
     let mut quota = Registry::new(alloc)?;
     for one in terms {
-        quota.add_bucket(alloc, bucket_of(one))?;
+        quota.add_bucket(alloc, TokenBucket::with_terms(*one))?;
     }
     Ok(quota)
 }

@@ -1,4 +1,3 @@
-pub mod Saying
 pub mod Running
 pub mod Printing
 pub mod Playing

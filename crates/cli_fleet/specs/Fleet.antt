@@ -1,18 +1,18 @@
 -- What `fleet` says of its input.
-use Rattle.std.specs.Prelude.{ℕ, ◌≡◌, ◌+◌, true, false, List, [], ◌∷◌, ◌++◌, map, length, Option}
+use Rattle.std.specs.Prelude.{ℕ, ◌≡◌, ◌+◌, List, [], ◌∷◌, ◌++◌, map, length, Option}
 use Rattle.retry_quota_cell.specs.Fleet.{AreTheirs, Each}
 use Rattle.retry_quota_cell.specs.Known.{Place, opening_of}
 use Rattle.json_scripts.specs.Fleet.Limits.{fleet_script_fits}
+use Rattle.json_scripts.specs.Fleet.Placed.{IsPlaced}
 use Rattle.json_scripts.specs.Fleet.Script.{IsFleetScript}
 use Rattle.json_scripts.specs.declared.fleet.terms.CallerRecord.{CallerRecord}
 use Rattle.json_scripts.specs.declared.fleet.terms.FleetScript.{FleetScript}
-use Rattle.retry_quota.specs.Book.{sums_of}
+use Rattle.retry_quota.specs.Book.{book_of, sums_of}
 use Rattle.retry_quota.specs.History.{Entry, end_of}
-use Rattle.client_scripted.specs.Buckets.{book_of}
-use Rattle.cli_shell.specs.Said.{Said, prints, refuses}
+use Rattle.cli_shell.specs.Said.{Said}
+use Rattle.cli_shell.specs.Scripts.{ScriptMeaning, bytes_say}
 use Rattle.cli_shell.specs.declared.status.PrintStatus.{PrintStatus}
 use Rattle.cli_shell.specs.declared.status.PrintStatus.TheVariants as outcomes
-use Rattle.cli_shell.specs.declared.status.Refusal.TheVariants as refusals
 use Rattle.cli_fleet.specs.Print.{callers_text, latest, left_text}
 use Rattle.cli_fleet.specs.Working.{Worked}
 use Rattle.cli_fleet.specs.declared.work.CallerWork.{CallerWork}
@@ -56,17 +56,15 @@ pub record IsFleetRun (script : FleetScript) (text : List ℕ) (outcome : PrintS
       ++ left_text (sums_of (end_of (book_of script.bucket) history)) (length history)
   pub came : outcome ≡ latest outcomes.Ok (map (λ (d : Done). d.outcome) done)
 
--- what it says of a script: the print of its callers where it is within its limits
-abbrev pub script_says : FleetScript → Said → Type 0
-script_says s (prints outcome text) = (fleet_script_fits s ≡ true) × IsFleetRun s text outcome
-script_says s (refuses refusals.TooLarge) = fleet_script_fits s ≡ false
-script_says s (refuses refusals.BadScript) = ⊥
-script_says s (refuses refusals.NotBuilt) = ⊥
+-- what the scripts of `fleet` are, and what is printed of each
+abbrev pub fleet_means : ScriptMeaning FleetScript
+fleet_means = record {
+  is_script = IsFleetScript;
+  is_sound = IsPlaced;
+  fits = fleet_script_fits;
+  is_print = IsFleetRun;
+}
 
--- The bytes are a script and it says this of it, or they are none.
+-- The bytes are a script, of which this is its print or which is past its limits; or they are none.
 abbrev pub fleet_says : List ℕ → Said → Type 0
-fleet_says bytes (prints outcome text) = (s : FleetScript) × IsFleetScript bytes s × script_says s (prints outcome text)
-fleet_says bytes (refuses refusals.TooLarge) =
-    (s : FleetScript) × IsFleetScript bytes s × script_says s (refuses refusals.TooLarge)
-fleet_says bytes (refuses refusals.BadScript) = (s : FleetScript) → IsFleetScript bytes s → ⊥
-fleet_says bytes (refuses refusals.NotBuilt) = ⊥
+fleet_says = bytes_say fleet_means

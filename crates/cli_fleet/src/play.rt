@@ -9,7 +9,6 @@ use crate::gate::Gate;
 use crate::print::{print_callers, print_left};
 use crate::work::CallerWork;
 use cli_shell::status::PrintStatus;
-use client_scripted::bucket_of;
 use json_scripts::fleet::{CallerRecord, FleetScript};
 use retry_quota::TokenBucket;
 use retry_quota_cell::{CellBucket, run_callers};
@@ -97,7 +96,7 @@ pub fn play_fleet<R: Threads + Wait + Sync, G: Gate + Sync>(
     } = script;
     let callers = callers_of(alloc, gate, start, words.as_slice(), callers)?;
     let count = callers.len() as u32;
-    let (bucket, pass) = CellBucket::new(rt, alloc, bucket_of(&bucket), count)?;
+    let (bucket, pass) = CellBucket::new(rt, alloc, TokenBucket::with_terms(bucket), count)?;
     let (callers, sums, length) = run_callers(rt, &bucket, pass, callers);
     let mut text = Vec::new(alloc);
     let came = print_callers(alloc, callers, &mut text)?;

@@ -152,7 +152,7 @@ fn pass_of<'w, B: At, G: Gate, R: Wait, C: ClassifyRetry, I: TakeOffer>(
     ensures own { IsOf B.place result }
     ensures made { HasMade (own result.view) result.view }
 {
-    let parts = world.parts;
+    let parts = world.into_parts();
     let quota = parts.quota;
     quota.into_pass()
 }
@@ -194,7 +194,11 @@ pub fn do_work<'w, B: At, G: Gate, R: Wait>(
     let quota = CellQuota::<B, ClientRateLimiter, R>::new(rt, bucket, pass, limiter);
     match builder.build(alloc, outside, quota) {
         Ok((_, world)) => make_all(alloc, operation, identities, world, invocations),
-        Err((_, _, quota, refusal)) => (Err(want_of(refusal)), quota.into_pass()),
+        Err((builder, outside, quota, refusal)) => {
+            drop(builder);
+            drop(outside);
+            (Err(want_of(refusal)), quota.into_pass())
+        }
     }
 }
 

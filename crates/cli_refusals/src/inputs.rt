@@ -4,7 +4,8 @@ use crate::refusals::Call;
 use cli_shell::status::Status;
 use cli_shell::streams::INPUT_LIMIT;
 use script_forms::{Cause, ScriptKind, explain};
-use std::alloc::{AllocError, Global};
+use smithy_types::OutOfMemory;
+use std::alloc::Global;
 
 /// The kind of scripts that the command reads; none where it reads none.
 pub fn script_kind(command: &str) -> Option<ScriptKind> {
@@ -19,17 +20,32 @@ pub fn script_kind(command: &str) -> Option<ScriptKind> {
 }
 
 /// Why the input of a call was refused: where it isn't a script, or which limit it passes.
-pub fn input_line(alloc: Global, call: Call<'_>, status: Status) -> Result<String, AllocError> {
+pub fn input_line(alloc: Global, call: Call<'_>, status: Status) -> Result<String, OutOfMemory> {
     let command = call.command;
     if command == "make" {
-        return String::from_str(alloc, "make: N is at most 1000");
+        return Ok(String::from_str(alloc, "make: N is at most 1000")?);
+    }
+    if command == "serve" {
+        return Ok(String::from_str(alloc, served_line(status))?);
     }
     if call.input.len() > INPUT_LIMIT {
-        return format!(in alloc; "{command}: the input has more than 16777216 bytes, its limit");
+        return Ok(format!(in alloc;
+            "{command}: the input has more than 16777216 bytes, its limit"
+        )?);
     }
     match script_kind(command) {
         Some(kind) => script_line(alloc, kind, call.input, status),
-        None => format!(in alloc; "{command}: the input was refused"),
+        None => Ok(format!(in alloc; "{command}: the input was refused")?),
+    }
+}
+
+// Why a host isn't served.
+fn served_line(status: Status) -> &'static str {
+    match status {
+        Status::TooLarge => {
+            "serve: the description passes a limit, or a line has more than 16777216 bytes"
+        }
+        _ => "serve: the first line is no description; docs/HOSTS.md tells its form",
     }
 }
 
@@ -39,7 +55,7 @@ fn script_line(
     kind: ScriptKind,
     input: &[u8],
     status: Status,
-) -> Result<String, AllocError> {
+) -> Result<String, OutOfMemory> {
     let cause = match status {
         Status::TooLarge => Cause::Limit,
         _ => Cause::Form,
@@ -48,7 +64,7 @@ fn script_line(
         Some(line) => Ok(line),
         None => {
             let command = kind.command();
-            format!(in alloc; "{command} script: it was refused, and no reason was found")
+            Ok(format!(in alloc; "{command} script: it was refused, and no reason was found")?)
         }
     }
 }

@@ -2,11 +2,12 @@
 
 use cli_replay::left_over::LeftOver;
 use json_values::names::kind_title;
-use std::alloc::{AllocError, Global};
+use smithy_types::OutOfMemory;
+use std::alloc::Global;
 
 /// Which question was answered Absent though the script had answers left, and which answer was next.
 /// None where no question was.
-pub fn missed_line(alloc: Global, left: LeftOver) -> Result<Option<String>, AllocError> {
+pub fn missed_line(alloc: Global, left: LeftOver) -> Result<Option<String>, OutOfMemory> {
     let Some(missed) = left.missed else {
         return Ok(None);
     };
@@ -21,11 +22,11 @@ pub fn missed_line(alloc: Global, left: LeftOver) -> Result<Option<String>, Allo
 }
 
 /// How many answers a run left over of its script, and from which on.
-pub fn left_over_line(alloc: Global, left: LeftOver) -> Result<String, AllocError> {
+pub fn left_over_line(alloc: Global, left: LeftOver) -> Result<String, OutOfMemory> {
     let first = left.first;
     let count = left.count;
     let rest = count.saturating_sub(first);
-    format!(in alloc;
+    Ok(format!(in alloc;
         "replay script: answers[{first}]: from here on, {rest} of {count} answers were left over"
-    )
+    )?)
 }

@@ -4,20 +4,19 @@ use runcheck::{Cause, Flaw, flaw_of};
 use script_forms::place::{Part, found_text};
 use script_forms::syntax::first_flaw;
 use smithy_types::OutOfMemory;
-use std::alloc::{AllocError, Global};
+use std::alloc::Global;
 
 /// Why a text isn't the print of a run: its first line that is wrong, and what is wrong there. None
 /// where it is one.
-pub fn print_line(alloc: Global, text: &[u8]) -> Result<Option<String>, AllocError> {
-    match flaw_of(alloc, text) {
-        Ok(Some(flaw)) => Ok(Some(flaw_line(alloc, text, flaw)?)),
-        Ok(None) => Ok(None),
-        Err(OutOfMemory) => Err(AllocError),
+pub fn print_line(alloc: Global, text: &[u8]) -> Result<Option<String>, OutOfMemory> {
+    match flaw_of(alloc, text)? {
+        Some(flaw) => Ok(Some(flaw_line(alloc, text, flaw)?)),
+        None => Ok(None),
     }
 }
 
 // The line of what is wrong.
-fn flaw_line(alloc: Global, text: &[u8], flaw: Flaw) -> Result<String, AllocError> {
+fn flaw_line(alloc: Global, text: &[u8], flaw: Flaw) -> Result<String, OutOfMemory> {
     let number = flaw.line.saturating_add(1);
     let cause = flaw.cause;
     let found = line_at(text, flaw.line);
@@ -39,13 +38,14 @@ fn push_found(
     line: &mut String,
     found: &[u8],
     start: usize,
-) -> Result<(), AllocError> {
+) -> Result<(), OutOfMemory> {
     line.push_str(", found ")?;
-    line.push_str(shown(alloc, found, start)?.as_str())
+    line.push_str(shown(alloc, found, start)?.as_str())?;
+    Ok(())
 }
 
 // What is expected in a line that isn't JSON, and what was found.
-fn push_expected(alloc: Global, line: &mut String, found: &[u8]) -> Result<(), AllocError> {
+fn push_expected(alloc: Global, line: &mut String, found: &[u8]) -> Result<(), OutOfMemory> {
     let Ok(text) = str::from_utf8(found) else {
         return Ok(());
     };
@@ -64,7 +64,7 @@ fn push_difference(
     line: &mut String,
     found: &[u8],
     printed: &[u8],
-) -> Result<(), AllocError> {
+) -> Result<(), OutOfMemory> {
     let same = same_front(found, printed);
     let column = column_of(found, same);
     line.push_str(format!(in alloc; ": column {column}: expected ")?.as_str())?;
@@ -98,9 +98,9 @@ fn column_of(line: &[u8], offset: usize) -> usize {
 }
 
 // A line from this byte on, cut where it is long.
-fn shown(alloc: Global, line: &[u8], start: usize) -> Result<String, AllocError> {
+fn shown(alloc: Global, line: &[u8], start: usize) -> Result<String, OutOfMemory> {
     if start >= line.len() {
-        return String::from_str(alloc, "the end of the line");
+        return Ok(String::from_str(alloc, "the end of the line")?);
     }
     let part = Part {
         start,

@@ -4,7 +4,8 @@ use crate::inputs::input_line;
 use crate::prints::print_line;
 use crate::word_list::words_line;
 use cli_shell::status::Status;
-use std::alloc::{AllocError, Global};
+use smithy_types::OutOfMemory;
+use std::alloc::Global;
 
 /// A call of the program, and what it read.
 #[derive(Clone, Copy)]
@@ -23,7 +24,7 @@ pub fn refusal_line(
     alloc: Global,
     call: Call<'_>,
     status: Status,
-) -> Result<Option<String>, AllocError> {
+) -> Result<Option<String>, OutOfMemory> {
     match status {
         Status::BadWords => Ok(Some(words_line(alloc, call.command, call.words)?)),
         Status::BadScript | Status::TooLarge => Ok(Some(input_line(alloc, call, status)?)),

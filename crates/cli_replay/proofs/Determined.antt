@@ -17,8 +17,9 @@ use Rattle.cli_shell.specs.declared.status.Ended.{Ended}
 use Rattle.cli_shell.specs.Sink.{SinkView}
 use Rattle.cli_shell.specs.Source.{SourceView}
 use Rattle.cli_shell.proofs.Determined.{Seen, seen, Told, status_of}
+use Rattle.cli_shell.proofs.Saying.{bytes-say-once}
 use Rattle.cli_replay.specs.Laws.{EachScriptIsReplayed, is_printed}
-use Rattle.cli_replay.specs.Replay.{IsReplay, Replays, replay_says}
+use Rattle.cli_replay.specs.Replay.{IsReplay, Replays, replay_means, replay_says}
 use Rattle.json_print.specs.World.Outcome.{came_to}
 
 one_script : (bytes : List ℕ) (s t : Script) → IsScript bytes s → IsScript bytes t → s ≡ t
@@ -42,9 +43,9 @@ one_print s t u a b (log, e, x, g, i, r, v) (m, f, y, h, j, q, w) =
 same_prints : (a b : PrintStatus) (t u : List ℕ) → a ≡ b → t ≡ u → prints a t ≡ prints b u
 same_prints a b t u e f = ap (λ (o : PrintStatus). prints o t) e ∙ ap (λ (x : List ℕ). prints b x) f
 
-one_said : (s r : Script) (a b : PrintStatus) (t u : List ℕ) → s ≡ r → IsReplay s t a → IsReplay r u b → prints a t ≡ prints b u
-one_said s r a b t u e h k =
-    let same = one_print s t u a b h (subst (λ x. IsReplay x u b) (sym e) k) in
+one_said : (s : Script) (a b : PrintStatus) (t u : List ℕ) → IsReplay s t a → IsReplay s u b → prints a t ≡ prints b u
+one_said s a b t u h k =
+    let same = one_print s t u a b h k in
     same_prints a b t u same.1 same.0
 
 -- a script within its limits passes none
@@ -52,19 +53,7 @@ within_passes : (s r : Script) → s ≡ r → is_within s ≡ true → is_withi
 within_passes s r e w v = let f = sym w ∙ ap is_within e ∙ v in cc
 
 pub replay_once : IsFunctional replay_says
-replay_once bytes (prints a t) (prints b u) (s, i, p, (w, h)) (r, j, q, (v, k)) = one_said s r a b t u (one_script bytes s r i j) h k
-replay_once bytes (prints a t) (refuses refusals.TooLarge) (s, i, p, (w, h)) (r, j, v) = absurd (within_passes s r (one_script bytes s r i j) w v)
-replay_once bytes (prints a t) (refuses refusals.BadScript) (s, i, p, h) f = absurd (f s i)
-replay_once bytes (prints a t) (refuses refusals.NotBuilt) h k = absurd k
-replay_once bytes (refuses refusals.TooLarge) (prints b u) (r, j, v) (s, i, p, (w, h)) = absurd (within_passes s r (one_script bytes s r i j) w v)
-replay_once bytes (refuses refusals.TooLarge) (refuses refusals.TooLarge) h k = refl
-replay_once bytes (refuses refusals.TooLarge) (refuses refusals.BadScript) (s, i, v) f = absurd (f s i)
-replay_once bytes (refuses refusals.TooLarge) (refuses refusals.NotBuilt) h k = absurd k
-replay_once bytes (refuses refusals.BadScript) (prints b u) f (s, i, p, h) = absurd (f s i)
-replay_once bytes (refuses refusals.BadScript) (refuses refusals.TooLarge) f (s, i, v) = absurd (f s i)
-replay_once bytes (refuses refusals.BadScript) (refuses refusals.BadScript) h k = refl
-replay_once bytes (refuses refusals.BadScript) (refuses refusals.NotBuilt) h k = absurd k
-replay_once bytes (refuses refusals.NotBuilt) x h k = absurd h
+replay_once = bytes-say-once replay_means one_script one_said
 
 -- ---- each script within its limits is replayed
 

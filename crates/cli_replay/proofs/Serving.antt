@@ -1,7 +1,7 @@
 -- What was answered to the bytes is what the command says of them.
 use Rattle.std.proofs.Common.{◌≡◌, ℕ, List, Option, None, Some, Result, Ok, Err, subst, sym}
 use Rattle.std.specs.Prelude.{IfOk, IfSome}
-use Rattle.std.specs.declared.alloc.AllocError.{AllocError}
+use Rattle.smithy_types.specs.declared.memory.OutOfMemory.{OutOfMemory}
 use Rattle.cli_shell.specs.Said.{Said, prints, refuses, said}
 use Rattle.cli_shell.specs.Shell.{Gives, IsAnswered}
 use Rattle.cli_shell.specs.Sink.{SinkView}
@@ -16,12 +16,12 @@ use Rattle.cli_replay.specs.Script.Replay.{IsScript}
 use Rattle.cli_replay.specs.declared.left_over.LeftOver.{LeftOver}
 use Rattle.cli_replay.specs.declared.script.replay.Script.{Script}
 
-carried : (says : Said → Type 0) (answer : Result Answer AllocError) (s : Said) → IfOk answer (λ a. says (said a)) → IsAnswered answer s → says s
+carried : (says : Said → Type 0) (answer : Result Answer OutOfMemory) (s : Said) → IfOk answer (λ a. says (said a)) → IsAnswered answer s → says s
 carried says (Ok a) s h e = subst says (sym e) h
 carried says (Err error) s h e = absurd e
 
 -- what is given of what was answered is given of what the command says
-pub given_by : {K : Type 0} (view : K → SinkView) (says : Said → Type 0) (answer : Result Answer AllocError) (ended : Ended) (old new : K) → IfOk answer (λ a. says (said a)) → Gives view (IsAnswered answer) ended old new → Gives view says ended old new
+pub given_by : {K : Type 0} (view : K → SinkView) (says : Said → Type 0) (answer : Result Answer OutOfMemory) (ended : Ended) (old new : K) → IfOk answer (λ a. says (said a)) → Gives view (IsAnswered answer) ended old new → Gives view says ended old new
 given_by view says answer (Printed outcome) old new h (text, e, adds) = (text, carried says answer (prints outcome text) h e, adds)
 given_by view says answer (Refused refusal) old new h (e, same) = (carried says answer (refuses refusal) h e, same)
 given_by view says answer (Shell shells.WriteFault) old new h (outcome, text, e, front, rose) = (outcome, text, carried says answer (prints outcome text) h e, front, rose)

@@ -1,5 +1,5 @@
 -- What `replay` says of its input.
-use Rattle.std.specs.Prelude.{ℕ, ◌≡◌, true, false, List, [], IsUtf8}
+use Rattle.std.specs.Prelude.{ℕ, ◌≡◌, true, List, [], IsUtf8}
 use Rattle.json_forms.specs.Lines.{are_readable}
 use Rattle.orchestrate.specs.Script.{Spelled}
 use Rattle.orchestrate.specs.declared.script.ScriptAnswer.{ScriptAnswer}
@@ -9,9 +9,9 @@ use Rattle.json_print.specs.Print.{run_data, run_text}
 use Rattle.json_print.specs.declared.ending.Ending.{Ending}
 use Rattle.cli_replay.specs.Script.Replay.{IsScript, is_within, script_spellable}
 use Rattle.cli_replay.specs.declared.script.replay.Script.{Script}
-use Rattle.cli_shell.specs.Said.{Said, prints, refuses}
+use Rattle.cli_shell.specs.Said.{Said}
+use Rattle.cli_shell.specs.Scripts.{ScriptMeaning, bytes_say}
 use Rattle.cli_shell.specs.declared.status.PrintStatus.{PrintStatus}
-use Rattle.cli_shell.specs.declared.status.Refusal.TheVariants as refusals
 use Rattle.json_print.specs.World.Outcome.{came_to}
 
 -- The script's operation ends so over this log, and each answer of the log is what the script gives to its question.
@@ -25,18 +25,15 @@ IsReplay s text outcome =
     (log : List Entry) × (e : Ending) × Replays s log e × (text ≡ run_text s.head log e) × (outcome ≡ came_to e)
     × (are_readable (run_data s.head log e) ≡ true) × IsUtf8 (run_text s.head log e)
 
--- what it says of a script: the print of its run where it is within its limits
-abbrev pub script_says : Script → Said → Type 0
-script_says s (prints outcome text) = (is_within s ≡ true) × IsReplay s text outcome
-script_says s (refuses refusals.TooLarge) = is_within s ≡ false
-script_says s (refuses refusals.BadScript) = ⊥
-script_says s (refuses refusals.NotBuilt) = ⊥
+-- what the scripts of `replay` are, and what is printed of each; JSON spells what is replayed
+abbrev pub replay_means : ScriptMeaning Script
+replay_means = record {
+  is_script = IsScript;
+  is_sound = λ s. script_spellable s ≡ true;
+  fits = is_within;
+  is_print = IsReplay;
+}
 
--- The bytes are a script and it says this of it, or they are none. JSON spells what is replayed.
+-- The bytes are a script, of which this is its print or which is past its limits; or they are none.
 abbrev pub replay_says : List ℕ → Said → Type 0
-replay_says bytes (prints outcome text) =
-    (s : Script) × IsScript bytes s × (script_spellable s ≡ true) × script_says s (prints outcome text)
-replay_says bytes (refuses refusals.TooLarge) =
-    (s : Script) × IsScript bytes s × script_says s (refuses refusals.TooLarge)
-replay_says bytes (refuses refusals.BadScript) = (s : Script) → IsScript bytes s → ⊥
-replay_says bytes (refuses refusals.NotBuilt) = ⊥
+replay_says = bytes_say replay_means

@@ -1,10 +1,11 @@
 //! The command that replays one run from a script of answers.
 ghost use Rattle.std.specs.Prelude.{◌≡◌, ◌≤◌, [], IfOk, IfSome, length};
 ghost use Rattle.cli_shell.specs.Said.{said};
+ghost use Rattle.cli_shell.specs.Scripts.{script_says};
 ghost use Rattle.cli_shell.specs.Shell.{Served};
 ghost use Rattle.json_print.specs.Endings.{Ends};
 ghost use Rattle.cli_replay.specs.LeftOver.{ReadLeft, TellsLeft, script_tells, tells_left};
-ghost use Rattle.cli_replay.specs.Replay.{IsReplay, replay_says, script_says};
+ghost use Rattle.cli_replay.specs.Replay.{IsReplay, replay_means, replay_says};
 ghost use Rattle.cli_replay.specs.Taking.{Takes};
 
 use crate::left_over::LeftOver;
@@ -21,7 +22,7 @@ use json_print::print::print_run;
 use json_print::world::{PayloadOperation, outcome_of, run_over};
 use json_print::{Ending, RunHead};
 use smithy_types::{OutOfMemory, Text};
-use std::alloc::{AllocError, Global};
+use std::alloc::Global;
 
 /// Replays the script that the input is, and prints the run.
 #[derive(Drop)]
@@ -32,7 +33,7 @@ impl Command for Replay {
 
     ghost says = { λ _ bytes s. replay_says bytes s };
 
-    fn answer(&self, alloc: Global, bytes: &[u8]) -> Result<Answer, AllocError> {
+    fn answer(&self, alloc: Global, bytes: &[u8]) -> Result<Answer, OutOfMemory> {
         Ok(answer_noted(alloc, bytes)?.answer)
     }
 }
@@ -48,8 +49,8 @@ pub struct Noted {
 }
 
 /// What is said of these bytes, and what the run of their script left over.
-#[tactic(auto, using(crate::proofs::Saying::script_said, crate::proofs::Saying::script_left))]
-pub fn answer_noted(alloc: Global, bytes: &[u8]) -> Result<Noted, AllocError>
+#[tactic(auto, using(cli_shell::proofs::Saying::script_said, crate::proofs::Saying::script_left))]
+pub fn answer_noted(alloc: Global, bytes: &[u8]) -> Result<Noted, OutOfMemory>
     ensures said { IfOk result (λ n. replay_says bytes.now (said n.answer)) }
     ensures left { IfOk result (λ n. tells_left bytes.now (said n.answer) n.left_over) }
 {
@@ -59,29 +60,26 @@ pub fn answer_noted(alloc: Global, bytes: &[u8]) -> Result<Noted, AllocError>
             answer: Answer::Refusal(Refusal::BadScript),
             left_over: None,
         }),
-        Err(ReadError::Memory) => Err(AllocError),
+        Err(ReadError::Memory) => Err(OutOfMemory),
     }
 }
 
 // What is said of a script, and what its run left over.
-fn answer_to(alloc: Global, script: Script) -> Result<Noted, AllocError>
-    ensures said { IfOk result (λ n. script_says script (said n.answer)) }
+fn answer_to(alloc: Global, script: Script) -> Result<Noted, OutOfMemory>
+    ensures said { IfOk result (λ n. script_says replay_means script (said n.answer)) }
     ensures left { IfOk result (λ n. script_tells script (said n.answer) n.left_over) }
 {
-    match is_within(alloc, &script) {
-        Ok(true) => match print_of_script(alloc, script) {
-            Ok(replayed) => Ok(Noted {
-                answer: Answer::Print(replayed.text, replayed.outcome),
-                left_over: replayed.left_over,
-            }),
-            Err(OutOfMemory) => Err(AllocError),
-        },
-        Ok(false) => Ok(Noted {
+    if !is_within(alloc, &script)? {
+        return Ok(Noted {
             answer: Answer::Refusal(Refusal::TooLarge),
             left_over: None,
-        }),
-        Err(OutOfMemory) => Err(AllocError),
+        });
     }
+    let replayed = print_of_script(alloc, script)?;
+    Ok(Noted {
+        answer: Answer::Print(replayed.text, replayed.outcome),
+        left_over: replayed.left_over,
+    })
 }
 
 // A script's run: its print, what it came to, and what it left over.

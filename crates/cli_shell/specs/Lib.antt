@@ -3,6 +3,7 @@ pub mod Sink
 pub mod Status
 pub mod Streams
 pub mod Said
+pub mod Scripts
 pub mod Shell
 pub mod Fixed
 pub mod Memory

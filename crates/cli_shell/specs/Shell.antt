@@ -1,6 +1,6 @@
 -- What the shell does with what a command says. One table for every command.
 use Rattle.std.specs.Prelude.{ℕ, ◌≡◌, ◌⊎◌, List, Result, Ok, Err}
-use Rattle.std.specs.declared.alloc.AllocError.{AllocError}
+use Rattle.smithy_types.specs.declared.memory.OutOfMemory.{OutOfMemory}
 use Rattle.cli_shell.specs.Said.{Said, prints, refuses, said}
 use Rattle.cli_shell.specs.Sink.{SinkView, Adds, AddsFront}
 use Rattle.cli_shell.specs.Source.{SourceView, Rose}
@@ -38,6 +38,6 @@ Served view says status before after old new =
     ⊎ ((bytes : List ℕ) × IsRead before bytes after × Gives view (says bytes) status old new)
 
 -- what was answered, unless there was no memory for it
-abbrev pub IsAnswered : Result Answer AllocError → Said → Type 0
+abbrev pub IsAnswered : Result Answer OutOfMemory → Said → Type 0
 IsAnswered (Ok answer) s = s ≡ said answer
 IsAnswered (Err error) s = ⊥

@@ -2,7 +2,8 @@
 ghost use Rattle.std.specs.Prelude.{◌≡◌, ◌≤◌, length, IfOk};
 
 use crate::status::{PrintStatus, Refusal};
-use std::alloc::{AllocError, Global};
+use smithy_types::OutOfMemory;
+use std::alloc::Global;
 
 /// What a command answers.
 #[derive(Debug, Drop)]
@@ -23,7 +24,7 @@ pub trait Command {
     ghost says: { Self → List ℕ → Said → Type 0 };
 
     /// What the command says to these bytes.
-    fn answer(&self, alloc: Global, bytes: &[u8]) -> Result<Answer, AllocError>
+    fn answer(&self, alloc: Global, bytes: &[u8]) -> Result<Answer, OutOfMemory>
         ensures { IfOk result (λ a. says self.now bytes.now (said a)) };
 }
 
@@ -35,6 +36,6 @@ pub trait Telling {
     ghost tells: { Self → Said → Type 0 };
 
     /// What the command says.
-    fn tell(&self, alloc: Global) -> Result<Answer, AllocError>
+    fn tell(&self, alloc: Global) -> Result<Answer, OutOfMemory>
         ensures { IfOk result (λ a. tells self.now (said a)) };
 }

@@ -3,7 +3,8 @@ ghost use Rattle.std.specs.Prelude.{◌≡◌};
 
 use crate::command::{Answer, Telling};
 use crate::status::{PrintStatus, Refusal};
-use std::alloc::{AllocError, Global};
+use smithy_types::OutOfMemory;
+use std::alloc::Global;
 
 /// Prints a text of the program's own.
 #[derive(Drop)]
@@ -17,7 +18,7 @@ impl Telling for Fixed {
 
     ghost tells = { λ command s. tells_text command.text.now s };
 
-    fn tell(&self, alloc: Global) -> Result<Answer, AllocError> {
+    fn tell(&self, alloc: Global) -> Result<Answer, OutOfMemory> {
         let mut text = Vec::new(alloc);
         text.extend_from_slice(self.text.as_bytes())?;
         Ok(Answer::Print(text, PrintStatus::Ok))
@@ -33,7 +34,7 @@ impl Telling for Unbuilt {
 
     ghost tells = { λ _ s. tells_unbuilt s };
 
-    fn tell(&self, _alloc: Global) -> Result<Answer, AllocError> {
+    fn tell(&self, _alloc: Global) -> Result<Answer, OutOfMemory> {
         Ok(Answer::Refusal(Refusal::NotBuilt))
     }
 }

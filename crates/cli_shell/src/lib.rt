@@ -6,6 +6,7 @@ pub mod command;
 pub mod fixed;
 pub mod laws;
 pub mod memory;
+pub mod script_command;
 pub mod serve;
 pub mod sink;
 pub mod source;

@@ -10,6 +10,7 @@ ghost use Rattle.cli_shell.specs.Memory.{sure_view, counted, faults_read, faults
 
 use crate::sink::{Sink, Wrote};
 use crate::source::{Got, Source};
+use smithy_types::OutOfMemory;
 use std::alloc::{AllocError, Global};
 use std::io::{Cursor, Read};
 
@@ -208,7 +209,7 @@ impl SureSink {
     }
 
     /// A sink with room for so many bytes.
-    pub fn with_room(alloc: Global, room: usize) -> Result<SureSink, AllocError>
+    pub fn with_room(alloc: Global, room: usize) -> Result<SureSink, OutOfMemory>
         ensures bytes { IfOk result (λ s. s.bytes.items ≡ []) }
         ensures room { IfOk result (λ s. room ≤ vec_capacity s.bytes) }
         ensures told { IfOk result (λ s. s.is_lost ≡ false) }

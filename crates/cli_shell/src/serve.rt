@@ -7,7 +7,8 @@ use crate::sink::Sink;
 use crate::source::Source;
 use crate::status::{Ended, ShellStatus};
 use crate::streams::{SinkFault, read_all, write_all};
-use std::alloc::{AllocError, Global};
+use smithy_types::OutOfMemory;
+use std::alloc::Global;
 
 /// Serves a command that reads.
 pub fn serve<C: Command, S: Source, K: Sink>(
@@ -36,7 +37,7 @@ pub fn show<C: Telling, K: Sink>(alloc: Global, command: &C, sink: &mut K) -> En
 }
 
 /// Writes what was answered.
-pub fn give<K: Sink>(answer: Result<Answer, AllocError>, sink: &mut K) -> Ended
+pub fn give<K: Sink>(answer: Result<Answer, OutOfMemory>, sink: &mut K) -> Ended
     ensures given { Gives K.view (IsAnswered answer) result sink.old sink.new }
     ensures count { (K.view sink.old).faults ≤ (K.view sink.new).faults }
 {
@@ -46,6 +47,6 @@ pub fn give<K: Sink>(answer: Result<Answer, AllocError>, sink: &mut K) -> Ended
             Err(SinkFault) => Ended::Shell(ShellStatus::WriteFault),
         },
         Ok(Answer::Refusal(refusal)) => Ended::Refused(refusal),
-        Err(AllocError) => Ended::Shell(ShellStatus::OutOfMemory),
+        Err(OutOfMemory) => Ended::Shell(ShellStatus::OutOfMemory),
     }
 }

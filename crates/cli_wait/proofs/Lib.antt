@@ -1,3 +1,3 @@
 pub mod Lines
-pub mod Saying
+pub mod Results
 pub mod Telling

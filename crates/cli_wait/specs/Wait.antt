@@ -1,10 +1,10 @@
 -- What `wait` says of its input.
-use Rattle.std.specs.Prelude.{ℕ, ◌≡◌, true, false, List, [], None}
-use Rattle.cli_shell.specs.Said.{Said, prints, refuses}
+use Rattle.std.specs.Prelude.{ℕ, ◌≡◌, List, [], None}
+use Rattle.cli_shell.specs.Said.{Said}
+use Rattle.cli_shell.specs.Scripts.{ScriptMeaning, bytes_say}
 use Rattle.cli_shell.specs.declared.status.PrintStatus.{PrintStatus}
-use Rattle.cli_shell.specs.declared.status.Refusal.TheVariants as refusals
 use Rattle.cli_wait.specs.declared.scripted_timers.ScriptedTimers.{ScriptedTimers}
-use Rattle.cli_wait.specs.Script.{IsScript, is_within}
+use Rattle.cli_wait.specs.Script.{IsBuildable, IsScript, is_within}
 use Rattle.cli_wait.specs.declared.script.WaitScript.{WaitScript}
 use Rattle.cli_wait.specs.Endings.{came_to}
 use Rattle.cli_wait.specs.Print.{wait_text}
@@ -31,17 +31,10 @@ pub record IsWait (s : WaitScript) (text : List ℕ) (status : PrintStatus) : Ty
   pub text_is : text ≡ wait_text last.notes ending
   pub status_is : status ≡ came_to ending
 
--- what it says of a script: the print of its waiter where it is within its limits
-abbrev pub script_says : WaitScript → Said → Type 0
-script_says s (prints status text) = (is_within s ≡ true) × IsWait s text status
-script_says s (refuses refusals.TooLarge) = is_within s ≡ false
-script_says s (refuses refusals.BadScript) = ⊥
-script_says s (refuses refusals.NotBuilt) = ⊥
+-- what the scripts of `wait` are, and what is printed of each
+abbrev pub wait_means : ScriptMeaning WaitScript
+wait_means = record { is_script = IsScript; is_sound = IsBuildable; fits = is_within; is_print = IsWait }
 
--- The bytes are a script and it says this of it, or they are none.
+-- The bytes are a script, of which this is its print or which is past its limit; or they are none.
 abbrev pub wait_says : List ℕ → Said → Type 0
-wait_says bytes (prints status text) = (s : WaitScript) × IsScript bytes s × script_says s (prints status text)
-wait_says bytes (refuses refusals.TooLarge) =
-    (s : WaitScript) × IsScript bytes s × script_says s (refuses refusals.TooLarge)
-wait_says bytes (refuses refusals.BadScript) = (s : WaitScript) → IsScript bytes s → ⊥
-wait_says bytes (refuses refusals.NotBuilt) = ⊥
+wait_says = bytes_say wait_means

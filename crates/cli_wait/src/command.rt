@@ -1,7 +1,6 @@
 //! The command that runs a waiter over a script.
 ghost use Rattle.std.specs.Prelude.{◌≡◌, ◌≤◌, true, IfOk};
-ghost use Rattle.cli_shell.specs.Said.{said};
-ghost use Rattle.cli_wait.specs.Wait.{IsWait, script_says};
+ghost use Rattle.cli_wait.specs.Wait.{IsWait};
 ghost use Rattle.cli_wait.specs.Walk.{EndsBy};
 ghost use Rattle.cli_wait.specs.Script.{IsBuildable, is_within};
 
@@ -9,42 +8,37 @@ use crate::ending::WaitEnding;
 use crate::print::print_wait;
 use crate::walk::walked;
 use crate::{ScriptedTimers, WaitScript, is_within, read_script};
-use cli_shell::command::{Answer, Command};
-use cli_shell::status::{PrintStatus, Refusal};
+use cli_shell::script_command::ScriptCommand;
+use cli_shell::status::PrintStatus;
 use json_forms::ReadError;
 use smithy_types::OutOfMemory;
-use std::alloc::{AllocError, Global};
+use std::alloc::Global;
 
 /// Runs the waiter of the script that the input is, and prints its polls and sleeps.
 #[derive(Drop)]
 pub struct WaitCommand;
 
-impl Command for WaitCommand {
-    ghost use Rattle.cli_wait.specs.Wait.{wait_says};
+impl ScriptCommand for WaitCommand {
+    ghost use Rattle.cli_wait.specs.Wait.{wait_means};
 
-    ghost says = { λ _ bytes s. wait_says bytes s };
+    type Script = WaitScript;
 
-    #[tactic(auto, using(crate::proofs::Saying::script_said))]
-    fn answer(&self, alloc: Global, bytes: &[u8]) -> Result<Answer, AllocError> {
-        match read_script(alloc, bytes) {
-            Ok(script) => answer_to(alloc, script),
-            Err(ReadError::Refused) => Ok(Answer::Refusal(Refusal::BadScript)),
-            Err(ReadError::Memory) => Err(AllocError),
-        }
+    ghost means = { wait_means };
+
+    fn read(&self, alloc: Global, bytes: &[u8]) -> Result<WaitScript, ReadError> {
+        read_script(alloc, bytes)
     }
-}
 
-// What is said of a script.
-fn answer_to(alloc: Global, script: WaitScript) -> Result<Answer, AllocError>
-    requires { IsBuildable script }
-    ensures { IfOk result (λ a. script_says script (said a)) }
-{
-    if !is_within(&script) {
-        return Ok(Answer::Refusal(Refusal::TooLarge));
+    fn fits(&self, script: &WaitScript) -> bool {
+        is_within(script)
     }
-    match print_of(alloc, script) {
-        Ok((text, status)) => Ok(Answer::Print(text, status)),
-        Err(OutOfMemory) => Err(AllocError),
+
+    fn play(
+        &self,
+        alloc: Global,
+        script: WaitScript,
+    ) -> Result<(Vec<u8>, PrintStatus), OutOfMemory> {
+        print_of(alloc, script)
     }
 }
 

@@ -1,21 +1,21 @@
 -- What `waiters` says is determined by its input.
-use Rattle.std.proofs.Common.{◌≡◌, ℕ, Bool, true, false, List, [], length, Some, ap, sym, subst, refl, ◌∙◌}
+use Rattle.std.proofs.Common.{◌≡◌, ℕ, List, [], length, Some, ap, sym, subst, ◌∙◌}
 use Rattle.std.specs.Prelude.{replicate}
-use Rattle.retry_quota.specs.Book.{sums_of}
+use Rattle.retry_quota.specs.Book.{book_of, sums_of}
 use Rattle.cli_shell.specs.Determined.{IsFunctional}
-use Rattle.cli_shell.specs.Said.{Said, prints, refuses}
+use Rattle.cli_shell.specs.Said.{prints}
+use Rattle.cli_shell.proofs.Saying.{bytes-say-once}
 use Rattle.cli_shell.specs.declared.status.PrintStatus.{PrintStatus}
-use Rattle.cli_shell.specs.declared.status.Refusal.TheVariants as refusals
 use Rattle.cli_waiters.specs.Fleet.Makes.{Does}
 use Rattle.cli_waiters.specs.Fleet.Waiters.{first_place, plans_of}
 use Rattle.cli_waiters.specs.declared.fleet.scripted_fleet.ScriptedFleet.{ScriptedFleet}
 use Rattle.cli_waiters.proofs.fleet.Steady.{scripts-are-steady}
 use Rattle.waiter_fleet.specs.Waiting.{WaitsAll}
 use Rattle.waiter_fleet.proofs.Determined.{runs-determined}
-use Rattle.cli_waiters.specs.Script.Script.{IsScript, is_within}
+use Rattle.cli_waiters.specs.Script.Script.{IsScript}
 use Rattle.cli_waiters.specs.declared.script.terms.WaitersScript.{WaitersScript}
 use Rattle.cli_waiters.specs.Print.{came_to, fleet_text}
-use Rattle.cli_waiters.specs.Waiters.{IsFirst, IsWaiters, book_of, waiters_says, waits_of}
+use Rattle.cli_waiters.specs.Waiters.{IsFirst, IsWaiters, waiters_means, waiters_says, waits_of}
 
 same_some : {X : Type 0} (x y : X) → Some x ≡ Some y → x ≡ y
 same_some x y is = cc
@@ -61,26 +61,10 @@ one-print s text other status too one two =
       status_is = one.status_is ∙ (ap came_to met.0 ∙ sym two.status_is);
     }
 
-one-said : (s r : WaitersScript) (a b : PrintStatus) (t u : List ℕ) → s ≡ r → IsWaiters s t a → IsWaiters r u b → prints a t ≡ prints b u
-one-said s r a b t u is one two =
-    let same = one-print s t u a b one (subst (λ x. IsWaiters x u b) (sym is) two) in
+one-said : (s : WaitersScript) (a b : PrintStatus) (t u : List ℕ) → IsWaiters s t a → IsWaiters s u b → prints a t ≡ prints b u
+one-said s a b t u one two =
+    let same = one-print s t u a b one two in
     ap (λ o. prints o t) same.status_is ∙ ap (λ x. prints b x) same.text_is
 
--- a script within its limits passes none
-within-passes : (s r : WaitersScript) → s ≡ r → is_within s ≡ true → is_within r ≡ false → ⊥
-within-passes s r is within passes = let clash = sym within ∙ (ap is_within is ∙ passes) in cc clash
-
 pub waiters-once : IsFunctional waiters_says
-waiters-once bytes (prints a t) (prints b u) (s, i, (w, h)) (r, j, (v, k)) = one-said s r a b t u (one-script bytes s r i j) h k
-waiters-once bytes (prints a t) (refuses refusals.TooLarge) (s, i, (w, h)) (r, j, v) = absurd (within-passes s r (one-script bytes s r i j) w v)
-waiters-once bytes (prints a t) (refuses refusals.BadScript) (s, i, h) f = absurd (f s i)
-waiters-once bytes (prints a t) (refuses refusals.NotBuilt) h k = absurd k
-waiters-once bytes (refuses refusals.TooLarge) (prints b u) (r, j, v) (s, i, (w, h)) = absurd (within-passes s r (one-script bytes s r i j) w v)
-waiters-once bytes (refuses refusals.TooLarge) (refuses refusals.TooLarge) h k = refl
-waiters-once bytes (refuses refusals.TooLarge) (refuses refusals.BadScript) (s, i, v) f = absurd (f s i)
-waiters-once bytes (refuses refusals.TooLarge) (refuses refusals.NotBuilt) h k = absurd k
-waiters-once bytes (refuses refusals.BadScript) (prints b u) f (s, i, h) = absurd (f s i)
-waiters-once bytes (refuses refusals.BadScript) (refuses refusals.TooLarge) f (s, i, v) = absurd (f s i)
-waiters-once bytes (refuses refusals.BadScript) (refuses refusals.BadScript) h k = refl
-waiters-once bytes (refuses refusals.BadScript) (refuses refusals.NotBuilt) h k = absurd k
-waiters-once bytes (refuses refusals.NotBuilt) x h k = absurd h
+waiters-once = bytes-say-once waiters_means one-script one-said

@@ -1,4 +1,3 @@
 pub mod Determined
 pub mod Lines
 pub mod Plans
-pub mod Saying

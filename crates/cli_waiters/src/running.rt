@@ -3,27 +3,13 @@ ghost use Rattle.std.specs.Prelude.{◌≡◌, ◌≤◌, length, IfOk};
 ghost use Rattle.waiter_fleet.specs.Plans.{AllGood};
 ghost use Rattle.waiter_fleet.specs.Waiting.{WaitsAll};
 ghost use Rattle.cli_waiters.specs.Fleet.Makes.{Does};
-ghost use Rattle.cli_waiters.specs.Waiters.{book_of, waits_of};
+ghost use Rattle.cli_waiters.specs.Waiters.{waits_of};
 
 use crate::fleet::ScriptedFleet;
-use retry_quota::{BucketTerms, TokenBucket};
+use retry_quota::TokenBucket;
 use smithy_types::{List, OutOfMemory};
 use std::alloc::Global;
 use waiter_fleet::{FleetError, FleetEvent, Plan, wait_all};
-
-/// The bucket of these terms. It is full.
-pub fn bucket_of(terms: &BucketTerms) -> TokenBucket
-    ensures { result ≡ book_of terms.now }
-{
-    TokenBucket::builder()
-        .capacity(terms.capacity)
-        .retry_cost(terms.retry_cost)
-        .throttling_retry_cost(terms.throttling_retry_cost)
-        .timeout_retry_cost(terms.timeout_retry_cost)
-        .success_reward(terms.success_reward)
-        .refill_rate(terms.refill_rate)
-        .build()
-}
 
 /// Lets waiters of these plans wait over a script, and answers what happened.
 pub fn waited(

@@ -1,4 +1,3 @@
 pub mod Service
-pub mod Buckets
 pub mod Parts
 pub mod Clients

@@ -76,17 +76,13 @@ scheme_by choices.Bearer = schemes.Bearer (record {})
 scheme_by (choices.ApiKey key) = schemes.ApiKey (key_scheme key)
 
 -- the scheme of which something is said, or the service's own of this id
-abbrev pub scheme_or_own : List ℕ → Option HttpSchemeChoice → ServiceScheme
+abbrev pub scheme_or_own : List ℕ → Option HttpSchemeChoice → Scheme ServiceScheme
 scheme_or_own id None = scheme_of id
-scheme_or_own id (Some choice) = scheme_by choice
+scheme_or_own id (Some choice) = Brought (scheme_by choice)
 
 -- the scheme of HTTP that has this id, if one is among these, and else the service's own
-abbrev pub scheme_of_id : List HttpSchemeChoice → List ℕ → ServiceScheme
+abbrev pub scheme_of_id : List HttpSchemeChoice → List ℕ → Scheme ServiceScheme
 scheme_of_id https id = scheme_or_own id (find (has_id id) https)
-
--- that scheme, as one that the program brings
-abbrev pub scheme_named : List HttpSchemeChoice → List ℕ → Scheme ServiceScheme
-scheme_named https id = Brought (scheme_of_id https id)
 
 -- each identity comes from the outside
 abbrev pub source_of : IdentityRecord → RegisteredSource (IdentityResolver NoAuthIdentityResolver)
@@ -104,7 +100,7 @@ auth_parts_of auths.NoAuth = record {
 auth_parts_of (auths.Schemes a) = record {
   no_auth = false;
   options = options.Listed a.options;
-  schemes = map (scheme_named a.http_schemes) a.schemes;
+  schemes = map (scheme_of_id a.http_schemes) a.schemes;
   sources = map source_of a.identities;
   cache = a.cache;
 }

@@ -2,9 +2,9 @@
 ghost use Rattle.std.specs.Prelude.{◌≡◌, find, map, IfOk, option_copied};
 ghost use Rattle.json_scripts.specs.Client.Schemes.{has_id};
 ghost use Rattle.client_scripted.specs.Parts.{auth_parts_of, auth_terms_of, key_scheme, scheme_by};
-ghost use Rattle.client_scripted.specs.Parts.{scheme_of_id, scheme_named, source_of};
+ghost use Rattle.client_scripted.specs.Parts.{scheme_of_id, source_of};
 
-use crate::service::ServiceScheme;
+use crate::service::{ServiceScheme, own_scheme};
 use client_auth::{IdentitySource, RegisteredSource};
 use client_builder::{AuthOptions, IdentityResolver, Scheme};
 use http_schemes::{ApiKeyAuthScheme, BearerAuthScheme};
@@ -102,31 +102,25 @@ fn schemes_of(
     http_schemes: &[HttpSchemeChoice],
     ids: List<Text>,
 ) -> Result<List<Scheme<ServiceScheme>>, OutOfMemory>
-    ensures { IfOk result (λ list. list ≡ map (scheme_named http_schemes.now) ids) }
+    ensures { IfOk result (λ list. list ≡ map (scheme_of_id http_schemes.now) ids) }
 {
     let mut list = List::new();
     for id in ids.into_vec(alloc) {
-        list.push(alloc, scheme_named(http_schemes, id)?)?;
+        list.push(alloc, scheme_of_id(http_schemes, id)?)?;
     }
     Ok(list)
 }
 
-fn scheme_named(
+// The scheme of HTTP that has this id, if that is said of one, and else the service's own.
+fn scheme_of_id(
     http_schemes: &[HttpSchemeChoice],
     id: Text,
 ) -> Result<Scheme<ServiceScheme>, OutOfMemory>
-    ensures { IfOk result (λ scheme. scheme ≡ scheme_named http_schemes.now id) }
-{
-    Ok(Scheme::Brought(scheme_of_id(http_schemes, id)?))
-}
-
-// The scheme of HTTP that has this id, if that is said of one, and else the service's own.
-fn scheme_of_id(http_schemes: &[HttpSchemeChoice], id: Text) -> Result<ServiceScheme, OutOfMemory>
     ensures { IfOk result (λ scheme. scheme ≡ scheme_of_id http_schemes.now id) }
 {
     match choice_of(http_schemes, id.as_str()) {
-        Some(choice) => scheme_by(choice),
-        None => Ok(ServiceScheme::of(id)),
+        Some(choice) => Ok(Scheme::Brought(scheme_by(choice)?)),
+        None => Ok(own_scheme(id)),
     }
 }
 

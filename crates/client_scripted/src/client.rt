@@ -13,7 +13,7 @@ use crate::partition::partition_of;
 use crate::plugins::own_plugins;
 use crate::service::{ServiceDeserializer, ServiceError, ServiceScheme, ServiceSerializer};
 use client_builder::{
-    BuildRefusal, IdentityResolver, OperationBuilder, OwnInterceptor, Plugin, Scheme,
+    BuildRefusal, IdentityResolver, OperationBuilder, OwnInterceptor, Plugin, Scheme, refusal_of,
 };
 use client_components::{RuntimeComponents, TypesOf};
 use client_retries::TakeOffer;
@@ -193,18 +193,15 @@ fn build_world(alloc: Global, builder: ServiceBuilder) -> Result<BuiltWorld, Out
     let outside = ScriptedOutside::new(alloc, 0, List::new());
     match builder.build(alloc, outside, quota) {
         Ok((_, world)) => Ok(world),
-        Err(back) => Err(want_of(back)),
+        Err(back) => Err(want_of(refusal_of(back))),
     }
 }
 
-/// A build that is refused: the builder, the outside and the quota come back.
-type Refused = (ServiceBuilder, ScriptedOutside, ClientQuota, BuildRefusal);
-
 // A build that lacks nothing is refused for want of memory alone.
-fn want_of(back: Refused) -> OutOfMemory
-    requires { back.3 ≡ BuildRefusal.OutOfMemory }
+fn want_of(refusal: BuildRefusal) -> OutOfMemory
+    requires { refusal ≡ BuildRefusal.OutOfMemory }
 {
-    match back.3 {
+    match refusal {
         BuildRefusal::OutOfMemory => OutOfMemory,
         BuildRefusal::Refused(_) => unreachable!(),
     }

@@ -2,7 +2,6 @@
 #![tactic(auto)]
 
 pub mod auth;
-pub mod bucket;
 pub mod builder;
 pub mod classifiers;
 pub mod client;
@@ -11,7 +10,6 @@ pub mod partition;
 pub mod plugins;
 pub mod service;
 
-pub use bucket::bucket_of;
 pub use client::{
     BuiltClient, BuiltWorld, ClientQuota, ScriptedClient, ServiceBuilder, ServiceWorld,
     build_client,

@@ -8,7 +8,7 @@ use std::alloc::Global;
 
 /// The custom partition of a client with this bucket, and a limiter of its own that is registered.
 /// Without a bucket the client has the default partition of its service.
-pub(crate) fn partition_of(
+pub fn partition_of(
     alloc: Global,
     service: &Text,
     bucket: Option<usize>,

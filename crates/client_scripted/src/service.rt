@@ -8,5 +8,5 @@ pub mod serializer;
 
 pub use deserializer::{ERROR_KIND, OUTPUT_KIND, ServiceDeserializer};
 pub use error::ServiceError;
-pub use scheme::ServiceScheme;
+pub use scheme::{ServiceScheme, own_scheme};
 pub use serializer::ServiceSerializer;

@@ -22,10 +22,19 @@ pub type Value<'t> = json::Value<'t, &'t Bump>;
 const MAX_DEPTH: usize = 127;
 
 /// The memory that the values of a text take. It is given back all at once.
-#[derive(Drop)]
 pub struct Arena {
     values: Bump,
     texts: Scratch,
+}
+
+// Written out, so that a drop is one call wherever an arena is dropped.
+impl Drop for Arena {
+    fn drop(self) {
+        let Arena {
+            values: _,
+            texts: _,
+        } = self;
+    }
 }
 
 impl Arena {

@@ -2,11 +2,13 @@
 ghost use Rattle.std.specs.Prelude.{◌≡◌, map, IfOk};
 ghost use Rattle.std.specs.Str.Lines.{lines};
 
-use std::alloc::{AllocError, Global};
+use smithy_types::OutOfMemory;
+use std::alloc::Global;
 
 /// The lines of the text, without their ends.
-pub fn lines_of(alloc: Global, text: &str) -> Result<Vec<&str>, AllocError>
+pub fn lines_of(alloc: Global, text: &str) -> Result<Vec<&str>, OutOfMemory>
     ensures { IfOk result (λ v. map (λ x. x.now) v.items ≡ lines text.now) }
 {
-    text.lines().collect(alloc)
+    let found: Vec<&str> = text.lines().collect(alloc)?;
+    Ok(found)
 }

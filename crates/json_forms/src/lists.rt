@@ -13,9 +13,15 @@ use std::alloc::Global;
 use std::marker::Model;
 
 // Names that were seen, each once.
-#[derive(Drop)]
 struct Names {
     seen: IndexSet<String>,
+}
+
+// Written out, so that a drop is one call wherever names are dropped.
+impl Drop for Names {
+    fn drop(self) {
+        let Names { seen: _ } = self;
+    }
 }
 
 impl Model for Names {

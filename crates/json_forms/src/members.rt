@@ -6,11 +6,12 @@ ghost use Rattle.json_forms.specs.Forms.{member_count};
 ghost use Rattle.json_forms.specs.View.{members_view};
 
 use crate::read::Member;
-use std::alloc::{AllocError, Global};
+use smithy_types::OutOfMemory;
+use std::alloc::Global;
 
 /// Whether there are so many members of different names.
 #[tactic(auto, using(crate::proofs::Counting::count_end))]
-pub fn has_members(alloc: Global, count: usize, members: &[Member]) -> Result<bool, AllocError>
+pub fn has_members(alloc: Global, count: usize, members: &[Member]) -> Result<bool, OutOfMemory>
     ensures { IfOk result (λ b. b ≡ (member_count (members_view members.now) == count)) }
 {
     let mut names = Vec::new(alloc);

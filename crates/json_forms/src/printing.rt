@@ -8,10 +8,16 @@ use smithy_types::OutOfMemory;
 use std::alloc::Global;
 
 /// A JSON value in which no number is a float.
-#[derive(Drop)]
 pub struct Json {
     value: Value,
     ghost no_float: { has_float (view value) ≡ false },
+}
+
+// Written out, so that a drop is one call wherever a value is dropped.
+impl Drop for Json {
+    fn drop(self) {
+        let Json { value: _ } = self;
+    }
 }
 
 /// The items of an array that is being made.
@@ -145,7 +151,7 @@ impl Json {
             object (member name.now (data_of json) no_members)) }
     {
         let mut members = Map::new(alloc);
-        put(&mut members, alloc, name, json.value)?;
+        put(&mut members, alloc, name, json.into_value())?;
         Ok(Json {
             value: Value::Object(members),
         })
@@ -178,6 +184,15 @@ impl Json {
         out.push(b'\n')?;
         Ok(())
     }
+
+    // The value as `serde_json` has it, in which no number is a float.
+    fn into_value(self) -> Value
+        ensures value { result ≡ self.value }
+        ensures no_float { has_float (view result) ≡ false }
+    {
+        let Json { value } = self;
+        value
+    }
 }
 
 impl Row {
@@ -202,7 +217,7 @@ impl Row {
         ensures ok { OnOk result (items_in self.new ≡ items_in self.old ++ data_of json ∷ []) }
         ensures err { OnErr result (items_in self.new ≡ items_in self.old) }
     {
-        self.values.push(json.value)?;
+        self.values.push(json.into_value())?;
         Ok(())
     }
 

@@ -26,7 +26,8 @@ use Rattle.smithy_types.specs.declared.notes.DecideNote.{DecideNote}
 use Rattle.smithy_types.specs.declared.notes.Reason.TheVariants as reasons
 use Rattle.smithy_types.specs.declared.notes.RetryAction.TheVariants as actions
 use Rattle.json_values.specs.Names.{kind_text}
-use Rattle.json_values.specs.Values.{action_data, answer_data, body_data, change_data, choice_data, choose_note_data, chosen_data, connector_data, decided_data, does_nothing, endpoint_data, endpoint_header_data, error_kind_data, fault_data, fault_parts, header_data, headers_data, hook_answer_data, identity_data, kind_data, layer_data, layer_entry_data, note_data, outcome_data, payload_data, reason_data, request_data, response_data, retry_data, spec_data, stall_data, sums_data, timeouts_data, value_data}
+use Rattle.json_values.specs.Values.{action_data, answer_data, body_data, change_data, choice_data, choose_note_data, chosen_data, connector_data, decided_data, does_nothing, endpoint_data, endpoint_header_data, error_kind_data, fault_data, fault_parts, header_data, headers_data, hook_answer_data, identity_data, kind_data, layer_data, layer_entry_data, note_data, outcome_data, payload_data, reason_data, request_data, response_data, sums_data}
+use Rattle.json_values.specs.SettingForms.{retry_data, spec_data, stall_data, timeouts_data, value_data}
 
 -- ---- rows, lists and values that may be absent
 
@@ -173,20 +174,10 @@ unfolding value_data
 value_nests (settings.Timeouts value) = let t = timeouts_nest value in omega arith
 value_nests (settings.Retry value) = retry_nests value
 value_nests (settings.Stall value) = let s = stall_nests value in omega arith
-value_nests (settings.LoadBody value) = omega arith
-value_nests (settings.Partition value) = omega arith
-value_nests (settings.Bucket value) = omega arith
-value_nests (settings.Prefix value) = omega arith
 value_nests (settings.Preference value) = let t = texts_nest value in omega arith
-value_nests settings.V2 = omega arith
-value_nests settings.EndpointParams = omega arith
-value_nests settings.AuthParams = omega arith
-value_nests settings.EnforceLength = omega arith
 value_nests (settings.Disable value) = let t = texts_nest value in omega arith
-value_nests (settings.Capture value) = omega arith
-value_nests (settings.Poisoned value) = omega arith
-value_nests settings.Upload = omega arith
 value_nests (settings.User name value) = let b = blob_nests value in omega arith
+value_nests _ = omega arith
 
 layer_entry_nests : Nests 3 layer_entry_data
 unfolding layer_entry_data

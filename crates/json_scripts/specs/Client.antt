@@ -1,5 +1,4 @@
 pub mod Members
-pub mod Buckets
 pub mod Retries
 pub mod Schemes
 pub mod Auth

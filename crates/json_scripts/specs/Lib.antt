@@ -1,3 +1,4 @@
+pub mod Buckets
 pub mod Client
 pub mod Fleet
 pub mod Records

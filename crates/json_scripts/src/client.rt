@@ -2,7 +2,6 @@
 //! answers, and the limits of what they may hold.
 
 pub mod auth;
-pub mod buckets;
 pub mod client;
 pub mod invocation;
 pub mod limits;
@@ -15,6 +14,6 @@ pub mod terms;
 pub use limits::{capacity_fits, client_fits, client_script_fits};
 pub use script::{ClientScript, read_client_script};
 pub use terms::{
-    ApiKeyChoice, AuthChoice, AuthSchemes, BucketTerms, ClassifierChoice, ClientFlags,
-    ClientObject, ClientRules, ClientTarget, HttpSchemeChoice, InvocationRecord, RetryChoice,
+    ApiKeyChoice, AuthChoice, AuthSchemes, ClassifierChoice, ClientFlags, ClientObject,
+    ClientRules, ClientTarget, HttpSchemeChoice, InvocationRecord, RetryChoice,
 };

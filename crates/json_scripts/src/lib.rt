@@ -1,11 +1,12 @@
 //! The scripts that commands read: what they say of the outside (`records`), scripts of clients and
 //! of callers (`client`, `fleet`), and one that is made from a number (`workload`).
 //!
-//! Here stands what all their readers share: objects with no member beside those that are named,
-//! stop points and lists of words, the limits of fuel, texts and heads, and what is left of a
-//! limit.
+//! Here stands what their readers share: objects with no member beside those that are named, stop
+//! points, lists of words, the terms of buckets, the limits of fuel, texts and heads, and what is
+//! left of a limit.
 #![tactic(auto)]
 
+pub mod buckets;
 pub mod client;
 pub mod fleet;
 pub mod fuel;

@@ -8,7 +8,8 @@ use Rattle.std.specs.List.{list_all, list_any, position, position_or_len}
 use Rattle.serde_json.specs.Data.{null}
 use Rattle.serde_json.specs.View.{items_of}
 use Rattle.smithy_context.specs.Layer.{is_at, placed, put_entry, merged}
-use Rattle.smithy_context.specs.Setting.{key_of, same_key}
+use Rattle.smithy_context.specs.Setting.{key_of, key_name, key_named, same_key}
+use Rattle.smithy_context.proofs.LookingLemmas.{same_is}
 use Rattle.smithy_types.specs.declared.config.RetryConfig.{RetryConfig}
 use Rattle.smithy_types.specs.declared.config.RetrySpec.{RetrySpec}
 use Rattle.smithy_types.specs.declared.config.RetrySpecVersion.{RetrySpecVersion}
@@ -24,10 +25,12 @@ use Rattle.smithy_context.specs.declared.setting.SettingKey.{SettingKey}
 use Rattle.smithy_context.specs.declared.setting.SettingKey.TheVariants as keys
 use Rattle.json_forms.specs.Forms.{word_at, optional_at, true_at, texts_at, blob_at, hex_at, only_at}
 use Rattle.json_forms.specs.Lists.{list_of, fresh, name_at, named_once}
-use Rattle.json_values.specs.SettingReadings.{timeouts_at, version_at, spec_at, retry_at, stall_at, default_partition, setting_at, user_key, front_key, back_key, key_of_text, layer_entry_at, layer_at}
+use Rattle.json_values.specs.SettingReadings.{user_key, key_of_text, layer_entry_at, layer_at}
+use Rattle.json_values.specs.SettingForms.{timeouts_at, version_at, spec_at, retry_at, stall_at, default_partition, setting_at}
 use Rattle.json_values.specs.Spellable.{is_u32, setting_spellable, is_of_key, layer_entry_spellable, key_texts, layer_spellable}
 use Rattle.json_forms.specs.Prints.{null_or}
-use Rattle.json_values.specs.Values.{timeouts_data, spec_data, retry_data, stall_data, value_data, key_text, layer_entry_data, layer_data}
+use Rattle.json_values.specs.Values.{key_text, layer_entry_data, layer_data}
+use Rattle.json_values.specs.SettingForms.{timeouts_data, spec_data, retry_data, stall_data, value_data}
 use Rattle.json_values.proofs.PrintedForms.{three_parts, list_read, optional_read, optional_read_all, optional_number_read, texts_read, blob_read}
 use Rattle.json_values.proofs.PrintedNames.{mode_read, reconnect_read}
 
@@ -69,44 +72,9 @@ unfolding user_key
 user_key_read name = rw (le-leb 5 (length (key_text (keys.User name))) (omega arith)) refl
 
 key_read : (k : SettingKey) → key_of_text (key_text k) ≡ Some k
-unfolding key_of_text front_key back_key
-key_read keys.Timeouts = refl
-key_read keys.Retry = refl
-key_read keys.Stall = refl
-key_read keys.LoadBody = refl
-key_read keys.Partition = refl
-key_read keys.Bucket = refl
-key_read keys.Prefix = refl
-key_read keys.Preference = refl
-key_read keys.V2 = refl
-key_read keys.EndpointParams = refl
-key_read keys.AuthParams = refl
-key_read keys.EnforceLength = refl
-key_read keys.Disable = refl
-key_read keys.Capture = refl
-key_read keys.Poisoned = refl
-key_read keys.Upload = refl
+unfolding key_of_text key_named key_name
 key_read (keys.User name) = user_key_read name
-
-pub one_key : (a b : SettingKey) → same_key a b ≡ true → a ≡ b
-one_key keys.Timeouts keys.Timeouts h = refl
-one_key keys.Retry keys.Retry h = refl
-one_key keys.Stall keys.Stall h = refl
-one_key keys.LoadBody keys.LoadBody h = refl
-one_key keys.Partition keys.Partition h = refl
-one_key keys.Bucket keys.Bucket h = refl
-one_key keys.Prefix keys.Prefix h = refl
-one_key keys.Preference keys.Preference h = refl
-one_key keys.V2 keys.V2 h = refl
-one_key keys.EndpointParams keys.EndpointParams h = refl
-one_key keys.AuthParams keys.AuthParams h = refl
-one_key keys.EnforceLength keys.EnforceLength h = refl
-one_key keys.Disable keys.Disable h = refl
-one_key keys.Capture keys.Capture h = refl
-one_key keys.Poisoned keys.Poisoned h = refl
-one_key keys.Upload keys.Upload h = refl
-one_key (keys.User a) (keys.User b) h = ap keys.User ((bytes_eq-Decides a b).0 h)
-one_key _ _ h = absurd (cc)
+key_read _ = refl
 
 -- ---- settings
 
@@ -122,45 +90,22 @@ unfolding setting_at value_data true_at setting_spellable
 own_key_read (settings.Timeouts value) h = rw (timeouts_read value) refl
 own_key_read (settings.Retry value) h = rw (retry_read value h) refl
 own_key_read (settings.Stall value) h = rw (stall_read value) refl
-own_key_read (settings.LoadBody value) h = refl
 own_key_read (settings.Partition value) h = ap (λ (p : RetryPartition). Some (settings.Partition p)) (default_again value h)
 own_key_read (settings.Bucket value) h = rw h refl
-own_key_read (settings.Prefix value) h = refl
 own_key_read (settings.Preference value) h = rw (texts_read value) refl
-own_key_read settings.V2 h = refl
-own_key_read settings.EndpointParams h = refl
-own_key_read settings.AuthParams h = refl
-own_key_read settings.EnforceLength h = refl
 own_key_read (settings.Disable value) h = rw (texts_read value) refl
-own_key_read (settings.Capture value) h = refl
-own_key_read (settings.Poisoned value) h = refl
-own_key_read settings.Upload h = refl
 own_key_read (settings.User name value) h = rw (blob_read value h) refl
+own_key_read _ h = refl
 
 setting_read : (k : SettingKey) (s : Setting) → is_of_key k s ≡ true → setting_at k (value_data s) ≡ Some s
 setting_read k s h =
     let parts = and_parts (same_key (key_of s) k) (setting_spellable s) h in
-    subst (λ (l : SettingKey). setting_at l (value_data s) ≡ Some s) (one_key (key_of s) k parts.0) (own_key_read s parts.1)
+    subst (λ (l : SettingKey). setting_at l (value_data s) ≡ Some s) (same_is (key_of s) k parts.0) (own_key_read s parts.1)
 
 no_setting : (k : SettingKey) → setting_at k null ≡ None
 unfolding setting_at timeouts_at retry_at stall_at true_at texts_at blob_at hex_at only_at
-no_setting keys.Timeouts = refl
-no_setting keys.Retry = refl
-no_setting keys.Stall = refl
-no_setting keys.LoadBody = refl
-no_setting keys.Partition = refl
-no_setting keys.Bucket = refl
-no_setting keys.Prefix = refl
-no_setting keys.Preference = refl
-no_setting keys.V2 = refl
-no_setting keys.EndpointParams = refl
-no_setting keys.AuthParams = refl
-no_setting keys.EnforceLength = refl
-no_setting keys.Disable = refl
-no_setting keys.Capture = refl
-no_setting keys.Poisoned = refl
-no_setting keys.Upload = refl
 no_setting (keys.User name) = refl
+no_setting _ = refl
 
 layer_entry_read : (e : LayerEntry) → layer_entry_spellable e ≡ true → layer_entry_at (layer_entry_data e) ≡ Some e
 unfolding layer_entry_at layer_entry_data layer_entry_spellable
@@ -186,7 +131,7 @@ abbrev is_absent : SettingKey → List LayerEntry → Type 0
 is_absent k l = list_any (pointwise nat_eq (key_text k)) (key_texts l) ≡ false
 
 not_at : (k : SettingKey) (e : LayerEntry) → pointwise nat_eq (key_text k) (key_text e.key) ≡ false → is_at k e ≡ false
-not_at k e h = false_from_ne_true (is_at k e) (λ s. both_ways _ h ((bytes_eq-Decides (key_text k) (key_text e.key)).1 (ap key_text (sym (one_key e.key k s)))))
+not_at k e h = false_from_ne_true (is_at k e) (λ s. both_ways _ h ((bytes_eq-Decides (key_text k) (key_text e.key)).1 (ap key_text (sym (same_is e.key k s)))))
 
 past_all : (k : SettingKey) (l : List LayerEntry) → is_absent k l → position_or_len (is_at k) l ≡ length l
 past_all k [] h = refl

@@ -20,7 +20,7 @@ use Rattle.run_grammar.specs.declared.kind.Role.TheVariants as roles
 use Rattle.json_values.specs.AnswerReadings.{kind_at}
 use Rattle.json_values.specs.Names.{mode_text, reconnect_text}
 use Rattle.json_values.specs.Readings.{error_kind_at}
-use Rattle.json_values.specs.SettingReadings.{mode_at, reconnect_at}
+use Rattle.json_values.specs.SettingForms.{mode_at, reconnect_at}
 use Rattle.json_values.specs.Values.{error_kind_data, kind_data}
 
 pub error_kind_read : (k : ErrorKind) → error_kind_at (error_kind_data k) ≡ Some k
@@ -51,25 +51,7 @@ stage_read stages.Final = refl
 hook_read : (h : Hook) → kind_at (kind_data (kinds.Hook h)) ≡ Some (kinds.Hook h)
 unfolding kind_at kind_data
 hook_read hooks.ReadBeforeExecutionClient = refl
-hook_read hooks.ReadBeforeExecutionOperation = refl
-hook_read hooks.ModifyBeforeSerialization = refl
-hook_read hooks.ReadBeforeSerialization = refl
-hook_read hooks.ReadAfterSerialization = refl
-hook_read hooks.ModifyBeforeRetryLoop = refl
-hook_read hooks.ReadBeforeAttempt = refl
-hook_read hooks.ModifyBeforeSigning = refl
-hook_read hooks.ReadBeforeSigning = refl
-hook_read hooks.ReadAfterSigning = refl
-hook_read hooks.ModifyBeforeTransmit = refl
-hook_read hooks.ReadBeforeTransmit = refl
-hook_read hooks.ReadAfterTransmit = refl
-hook_read hooks.ModifyBeforeDeserialization = refl
-hook_read hooks.ReadBeforeDeserialization = refl
-hook_read hooks.ReadAfterDeserialization = refl
-hook_read hooks.ModifyBeforeAttemptCompletion = refl
-hook_read hooks.ReadAfterAttempt = refl
-hook_read hooks.ModifyBeforeCompletion = refl
-hook_read hooks.ReadAfterExecution = refl
+hook_read _ = refl
 
 start_read : (r : Role) → kind_at (kind_data (kinds.Start r)) ≡ Some (kinds.Start r)
 unfolding kind_at kind_data

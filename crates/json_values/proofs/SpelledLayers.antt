@@ -8,15 +8,17 @@ use Rattle.std.specs.List.{list_all, list_any}
 use Rattle.serde_json.specs.Data.{Data, Items, no_items, item}
 use Rattle.serde_json.specs.Find.{as_str, as_array, as_bool}
 use Rattle.smithy_context.specs.Layer.{entry, merged}
+use Rattle.smithy_context.specs.Setting.{key_in, key_name, key_named, key_table}
 use Rattle.smithy_types.specs.declared.config.RetryConfig.{RetryConfig}
 use Rattle.smithy_context.specs.declared.layer.LayerEntry.{LayerEntry}
 use Rattle.smithy_context.specs.declared.setting.SettingKey.{SettingKey}
 use Rattle.smithy_context.specs.declared.setting.SettingKey.TheVariants as keys
-use Rattle.json_forms.specs.Forms.{named, optional_at, true_at, texts_at, blob_at}
+use Rattle.json_forms.specs.Forms.{optional_at, true_at, texts_at, blob_at}
 use Rattle.json_forms.specs.Lists.{list_of, fresh, name_at, once, named_once}
 use Rattle.json_forms.specs.Plain.{number_at, number_below, pair_at, septuple_at}
 use Rattle.json_forms.specs.Reading.{◌>>=◌}
-use Rattle.json_values.specs.SettingReadings.{timeouts_at, spec_at, mode_at, reconnect_at, retry_at, stall_at, setting_at, user_key, front_key, back_key, or_read, key_of_text, layer_entry_at, layer_at}
+use Rattle.json_values.specs.SettingReadings.{user_key, or_read, key_of_text, layer_entry_at, layer_at}
+use Rattle.json_values.specs.SettingForms.{timeouts_at, spec_at, mode_at, reconnect_at, retry_at, stall_at, setting_at}
 use Rattle.json_values.specs.Spellable.{is_u32, bytes_spellable, setting_spellable, is_of_key, layer_entry_spellable, key_texts, layer_spellable}
 use Rattle.json_values.specs.Values.{key_text}
 use Rattle.json_values.proofs.PrintedLayers.{merged_behind}
@@ -44,16 +46,12 @@ setting_spelled keys.Partition d h = past _ (as_str d) _ (λ v. refl)
 setting_spelled keys.Bucket d h = step _ _ (number_below (2 ^ 32) d) _ (number_within (2 ^ 32) d) (λ v hv. hv)
 setting_spelled keys.Prefix d h = past _ (as_str d) _ (λ v. refl)
 setting_spelled keys.Preference d h = past _ (texts_at d) _ (λ v. refl)
-setting_spelled keys.V2 d h = past _ (true_at d) _ (λ v. refl)
-setting_spelled keys.EndpointParams d h = past _ (true_at d) _ (λ v. refl)
-setting_spelled keys.AuthParams d h = past _ (true_at d) _ (λ v. refl)
-setting_spelled keys.EnforceLength d h = past _ (true_at d) _ (λ v. refl)
 setting_spelled keys.Disable d h = past _ (texts_at d) _ (λ v. refl)
 setting_spelled keys.Capture d h = past _ (number_at d) _ (λ v. refl)
 setting_spelled keys.Poisoned d h = past _ (number_at d) _ (λ v. refl)
-setting_spelled keys.Upload d h = past _ (true_at d) _ (λ v. refl)
 setting_spelled (keys.User n) d h =
     step _ _ (blob_at d) _ (blob_spelled d h) (λ v hv. and_from (pointwise nat_eq n n) (bytes_spellable v) ((bytes_eq-Decides n n).1 refl) hv)
+setting_spelled _ d h = past _ (true_at d) _ (λ v. refl)
 
 -- ---- keys
 
@@ -61,23 +59,25 @@ setting_spelled (keys.User n) d h =
 abbrev Prints : List ℕ → SettingKey → Type 0
 Prints s k = key_text k ≡ s
 
-named_prints : (ks : List SettingKey) (s : List ℕ) → Holds (Prints s) (named key_text ks s)
+-- a row of the table whose key prints as its name
+abbrev prints_as : SettingKey × List ℕ → Bool
+prints_as row = pointwise nat_eq (key_text row.0) row.1
+
+rows_print : (rows : List (SettingKey × List ℕ)) (s : List ℕ) → list_all prints_as rows ≡ true → Holds (Prints s) (key_in rows s)
 unfolding Holds
-named_prints [] s = tt
-named_prints (k ∷ ks) s =
-    either_by (Prints s) (pointwise nat_eq s (key_text k)) (Some k) (named key_text ks s) (λ e. sym ((bytes_eq-Decides s (key_text k)).0 e)) (λ _. named_prints ks s)
+rows_print [] s h = tt
+rows_print (row ∷ rows) s h =
+    let parts = and_parts (prints_as row) (list_all prints_as rows) h in
+    either_by (Prints s) (pointwise nat_eq s row.1) (Some row.0) (key_in rows s)
+    (λ e. (bytes_eq-Decides (key_text row.0) row.1).0 parts.0 ∙ sym ((bytes_eq-Decides s row.1).0 e)) (λ _. rows_print rows s parts.1)
 
 or_prints : (s : List ℕ) (a b : Option SettingKey) → Holds (Prints s) a → Holds (Prints s) b → Holds (Prints s) (or_read a b)
 or_prints s None b h k = k
 or_prints s (Some x) b h k = h
 
-front_prints : (s : List ℕ) → Holds (Prints s) (front_key s)
-unfolding front_key
-front_prints s = named_prints (keys.Timeouts ∷ keys.Retry ∷ keys.Stall ∷ keys.LoadBody ∷ keys.Partition ∷ keys.Bucket ∷ keys.Prefix ∷ keys.Preference ∷ []) s
-
-back_prints : (s : List ℕ) → Holds (Prints s) (back_key s)
-unfolding back_key
-back_prints s = named_prints (keys.V2 ∷ keys.EndpointParams ∷ keys.AuthParams ∷ keys.EnforceLength ∷ keys.Disable ∷ keys.Capture ∷ keys.Poisoned ∷ keys.Upload ∷ []) s
+table_prints : (s : List ℕ) → Holds (Prints s) (key_named s)
+unfolding key_named key_name
+table_prints s = rows_print key_table s refl
 
 user_prints : (s : List ℕ) → Holds (Prints s) (user_key s)
 unfolding user_key Holds
@@ -88,7 +88,7 @@ user_prints s =
 
 key_prints : (s : List ℕ) → Holds (Prints s) (key_of_text s)
 unfolding key_of_text
-key_prints s = or_prints s (front_key s) (or_read (back_key s) (user_key s)) (front_prints s) (or_prints s (back_key s) (user_key s) (back_prints s) (user_prints s))
+key_prints s = or_prints s (key_named s) (user_key s) (table_prints s) (user_prints s)
 
 -- ---- entries
 

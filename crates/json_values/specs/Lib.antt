@@ -1,4 +1,5 @@
 pub mod Names
+pub mod SettingForms
 pub mod Values
 pub mod Readings
 pub mod SettingReadings

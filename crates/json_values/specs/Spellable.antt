@@ -121,25 +121,13 @@ change_spellable (changes.Outcome outcome) = outcome_spellable outcome
 
 -- ---- settings and layers
 
--- a script can't write the numbers of a custom partition
+-- a script can't write the numbers of a custom partition; of all others but these JSON can spell each value
 unfoldable pub setting_spellable : Setting → Bool
-setting_spellable (settings.Timeouts value) = true
 setting_spellable (settings.Retry value) = is_u32 value.max_attempts
-setting_spellable (settings.Stall value) = true
-setting_spellable (settings.LoadBody value) = true
 setting_spellable (settings.Partition value) = is_none value.custom
 setting_spellable (settings.Bucket value) = is_u32 value
-setting_spellable (settings.Prefix value) = true
-setting_spellable (settings.Preference value) = true
-setting_spellable settings.V2 = true
-setting_spellable settings.EndpointParams = true
-setting_spellable settings.AuthParams = true
-setting_spellable settings.EnforceLength = true
-setting_spellable (settings.Disable value) = true
-setting_spellable (settings.Capture value) = true
-setting_spellable (settings.Poisoned value) = true
-setting_spellable settings.Upload = true
 setting_spellable (settings.User name value) = bytes_spellable value
+setting_spellable _ = true
 
 -- a setting of this key
 abbrev pub is_of_key : SettingKey → Setting → Bool

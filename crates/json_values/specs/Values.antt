@@ -7,10 +7,6 @@ use Rattle.http_header.specs.HeaderMap.{pairs}
 use Rattle.serde_json.specs.Data.{Data, null, boolean, number, string, array, object, unsigned, no_members, member}
 use Rattle.serde_json.specs.View.{items_of}
 use Rattle.smithy_types.specs.HeaderList.{HeaderList}
-use Rattle.smithy_types.specs.declared.config.RetryConfig.{RetryConfig}
-use Rattle.smithy_types.specs.declared.config.RetrySpec.{RetrySpec}
-use Rattle.smithy_types.specs.declared.config.StalledStreamProtectionConfig.{StalledStreamProtectionConfig}
-use Rattle.smithy_types.specs.declared.config.TimeoutConfig.{TimeoutConfig}
 use Rattle.smithy_types.specs.declared.fault.Fault.{Fault}
 use Rattle.smithy_types.specs.declared.fault.FaultKind.{FaultKind}
 use Rattle.smithy_types.specs.declared.fault.FaultKind.TheVariants as faults
@@ -41,8 +37,6 @@ use Rattle.smithy_types.specs.declared.notes.Reason.TheVariants as reasons
 use Rattle.smithy_types.specs.declared.notes.RetryAction.{RetryAction}
 use Rattle.smithy_types.specs.declared.notes.RetryAction.TheVariants as actions
 use Rattle.smithy_types.specs.declared.payload.Payload.{Payload}
-use Rattle.smithy_context.specs.declared.setting.Setting.{Setting}
-use Rattle.smithy_context.specs.declared.setting.Setting.TheVariants as settings
 use Rattle.smithy_context.specs.declared.setting.SettingKey.{SettingKey}
 use Rattle.smithy_context.specs.declared.setting.SettingKey.TheVariants as keys
 use Rattle.smithy_types.specs.declared.sums.Sums.{Sums}
@@ -52,7 +46,8 @@ use Rattle.run_grammar.specs.declared.answer.Chosen.{Chosen}
 use Rattle.run_grammar.specs.declared.kind.Kind.{Kind}
 use Rattle.json_forms.specs.Prints.{row, num, null_or, texts, blob_data}
 use Rattle.smithy_types.specs.Hooks.{hook_text}
-use Rattle.json_values.specs.Names.{kind_text, error_kind_text, mode_text, reconnect_text, version_text}
+use Rattle.json_values.specs.Names.{kind_text, error_kind_text}
+use Rattle.json_values.specs.SettingForms.{value_data}
 
 -- ---- payloads, requests and responses
 
@@ -135,44 +130,6 @@ change_data (changes.Response response) = row (string (codes "Response") ∷ res
 change_data (changes.Outcome outcome) = row (string (codes "Outcome") ∷ outcome_data outcome ∷ [])
 
 -- ---- settings
-
--- the deadlines, each in nanoseconds or null
-unfoldable pub timeouts_data : TimeoutConfig → Data
-timeouts_data t =
-    row (null_or num t.connect ∷ null_or num t.read ∷ null_or num t.operation ∷ null_or num t.attempt ∷ [])
-
--- the specification of retries: its version, long polling, and the first backoff where nothing throttles
-unfoldable pub spec_data : RetrySpec → Data
-spec_data s = row (string (version_text s.version) ∷ boolean s.long_polling ∷ num s.non_throttling_initial_backoff ∷ [])
-
--- how an operation is retried
-unfoldable pub retry_data : RetryConfig → Data
-retry_data r = row (string (mode_text r.mode) ∷ num r.max_attempts ∷ num r.initial_backoff ∷ num r.max_backoff
-    ∷ string (reconnect_text r.reconnect) ∷ boolean r.static_base ∷ null_or spec_data r.spec ∷ [])
-
--- whether uploads and downloads that stall are given up, and after which grace period
-unfoldable pub stall_data : StalledStreamProtectionConfig → Data
-stall_data s = row (boolean s.upload ∷ boolean s.download ∷ num s.grace_period ∷ [])
-
--- a mark's value is true
-unfoldable pub value_data : Setting → Data
-value_data (settings.Timeouts value) = timeouts_data value
-value_data (settings.Retry value) = retry_data value
-value_data (settings.Stall value) = stall_data value
-value_data (settings.LoadBody value) = boolean value
-value_data (settings.Partition value) = string value.name
-value_data (settings.Bucket value) = num value
-value_data (settings.Prefix value) = string value
-value_data (settings.Preference value) = texts value
-value_data settings.V2 = boolean true
-value_data settings.EndpointParams = boolean true
-value_data settings.AuthParams = boolean true
-value_data settings.EnforceLength = boolean true
-value_data (settings.Disable value) = texts value
-value_data (settings.Capture value) = num value
-value_data (settings.Poisoned value) = num value
-value_data settings.Upload = boolean true
-value_data (settings.User name value) = blob_data value
 
 -- the caller's own keys stand behind `user.`
 abbrev pub key_text : SettingKey → List ℕ

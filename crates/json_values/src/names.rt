@@ -1,5 +1,5 @@
 //! The names that stand in scripts and prints.
-ghost use Rattle.std.specs.Prelude.{◌≡◌, nat_eq};
+ghost use Rattle.std.specs.Prelude.{◌≡◌, map, nat_eq};
 ghost use Rattle.std.specs.Cmp.Lexicographic.{pointwise};
 ghost use Rattle.json_forms.specs.Forms.{named};
 ghost use Rattle.json_values.specs.Names.{kind_text, error_kind_text};
@@ -16,7 +16,7 @@ pub fn kind_title(kind: Kind) -> &'static str
 {
     match kind {
         Kind::Configure(stage) => configure_title(stage),
-        Kind::Hook(hook) => hook_title(hook),
+        Kind::Hook(hook) => hook.title(),
         Kind::Start(role) => start_title(role),
         Kind::Wait(role) => wait_title(role),
         Kind::Abandon(abandoned) => abandon_title(abandoned),
@@ -44,34 +44,6 @@ fn configure_title(stage: ConfigureStage) -> &'static str
         ConfigureStage::Client => "Configure Client",
         ConfigureStage::Operation => "Configure Operation",
         ConfigureStage::Final => "Configure Final",
-    }
-}
-
-// A hook, as a kind of question.
-fn hook_title(hook: Hook) -> &'static str
-    ensures { result.now ≡ kind_text (Kind.Hook hook) }
-{
-    match hook {
-        Hook::ReadBeforeExecutionClient => "Hook read_before_execution client",
-        Hook::ReadBeforeExecutionOperation => "Hook read_before_execution operation",
-        Hook::ModifyBeforeSerialization => "Hook modify_before_serialization",
-        Hook::ReadBeforeSerialization => "Hook read_before_serialization",
-        Hook::ReadAfterSerialization => "Hook read_after_serialization",
-        Hook::ModifyBeforeRetryLoop => "Hook modify_before_retry_loop",
-        Hook::ReadBeforeAttempt => "Hook read_before_attempt",
-        Hook::ModifyBeforeSigning => "Hook modify_before_signing",
-        Hook::ReadBeforeSigning => "Hook read_before_signing",
-        Hook::ReadAfterSigning => "Hook read_after_signing",
-        Hook::ModifyBeforeTransmit => "Hook modify_before_transmit",
-        Hook::ReadBeforeTransmit => "Hook read_before_transmit",
-        Hook::ReadAfterTransmit => "Hook read_after_transmit",
-        Hook::ModifyBeforeDeserialization => "Hook modify_before_deserialization",
-        Hook::ReadBeforeDeserialization => "Hook read_before_deserialization",
-        Hook::ReadAfterDeserialization => "Hook read_after_deserialization",
-        Hook::ModifyBeforeAttemptCompletion => "Hook modify_before_attempt_completion",
-        Hook::ReadAfterAttempt => "Hook read_after_attempt",
-        Hook::ModifyBeforeCompletion => "Hook modify_before_completion",
-        Hook::ReadAfterExecution => "Hook read_after_execution",
     }
 }
 
@@ -169,31 +141,15 @@ pub fn reconnect_name(mode: ReconnectMode) -> &'static str
     }
 }
 
-/// Each kind of question.
-const ALL_KINDS: [Kind; 54] = [
+// The kinds of the configuration's steps.
+const STEPS: [Kind; 3] = [
     Kind::Configure(ConfigureStage::Client),
     Kind::Configure(ConfigureStage::Operation),
     Kind::Configure(ConfigureStage::Final),
-    Kind::Hook(Hook::ReadBeforeExecutionClient),
-    Kind::Hook(Hook::ReadBeforeExecutionOperation),
-    Kind::Hook(Hook::ModifyBeforeSerialization),
-    Kind::Hook(Hook::ReadBeforeSerialization),
-    Kind::Hook(Hook::ReadAfterSerialization),
-    Kind::Hook(Hook::ModifyBeforeRetryLoop),
-    Kind::Hook(Hook::ReadBeforeAttempt),
-    Kind::Hook(Hook::ModifyBeforeSigning),
-    Kind::Hook(Hook::ReadBeforeSigning),
-    Kind::Hook(Hook::ReadAfterSigning),
-    Kind::Hook(Hook::ModifyBeforeTransmit),
-    Kind::Hook(Hook::ReadBeforeTransmit),
-    Kind::Hook(Hook::ReadAfterTransmit),
-    Kind::Hook(Hook::ModifyBeforeDeserialization),
-    Kind::Hook(Hook::ReadBeforeDeserialization),
-    Kind::Hook(Hook::ReadAfterDeserialization),
-    Kind::Hook(Hook::ModifyBeforeAttemptCompletion),
-    Kind::Hook(Hook::ReadAfterAttempt),
-    Kind::Hook(Hook::ModifyBeforeCompletion),
-    Kind::Hook(Hook::ReadAfterExecution),
+];
+
+// The kinds but for these and for the hooks.
+const OTHER_KINDS: [Kind; 31] = [
     Kind::Serialize,
     Kind::Load,
     Kind::Initial,
@@ -243,8 +199,28 @@ pub fn kind_named(text: &str) -> Option<Kind>
     if is_named(likely, text) {
         Some(likely)
     } else {
-        first_named(&ALL_KINDS, text)
+        any_named(text)
     }
+}
+
+// The same, by a search of all kinds.
+#[tactic(auto, using(crate::proofs::FoundNames::named_in_three))]
+fn any_named(text: &str) -> Option<Kind>
+    ensures { result ≡ named kind_text all_kinds text.now }
+{
+    let step = first_named(&STEPS, text);
+    let hook = first_hook(&Hook::ALL, text);
+    let other = first_named(&OTHER_KINDS, text);
+    step.or(hook).or(other)
+}
+
+fn first_hook(hooks: &[Hook], text: &str) -> Option<Kind>
+    ensures { result ≡ named kind_text (map Kind.Hook hooks.now) text.now }
+{
+    hooks
+        .iter()
+        .map(|hook| Kind::Hook(*hook))
+        .find(|kind| is_named(*kind, text))
 }
 
 fn first_named(kinds: &[Kind], text: &str) -> Option<Kind>
@@ -287,7 +263,7 @@ fn likely_kind(name: &[u8]) -> Kind {
 // The same, of names of at least nine bytes.
 fn likely_longer(name: &[u8]) -> Kind {
     match byte_at(name, 0) {
-        b'H' => Kind::Hook(likely_hook(name)),
+        b'H' => Kind::Hook(Hook::likely(name)),
         b'S' => match byte_at(name, 1) {
             b't' => Kind::Start(likely_role(byte_at(name, 6))),
             _ => Kind::Serialize,
@@ -334,49 +310,6 @@ fn likely_abandoned(name: &[u8]) -> Abandonable {
         17 => Abandonable::WaitSend,
         18 => Abandonable::WaitRetry,
         _ => Abandonable::WaitLongPoll,
-    }
-}
-
-// The hook that may have this name, with what the name of its kind begins with.
-fn likely_hook(name: &[u8]) -> Hook {
-    match name.len() {
-        23 => match byte_at(name, 16) {
-            b's' => Hook::ReadAfterSigning,
-            _ => Hook::ReadAfterAttempt,
-        },
-        24 => match byte_at(name, 17) {
-            b'a' => Hook::ReadBeforeAttempt,
-            b's' => Hook::ReadBeforeSigning,
-            _ => Hook::ReadAfterTransmit,
-        },
-        25 => match byte_at(name, 17) {
-            b't' => Hook::ReadBeforeTransmit,
-            _ => Hook::ReadAfterExecution,
-        },
-        26 => Hook::ModifyBeforeSigning,
-        27 => Hook::ModifyBeforeTransmit,
-        29 => match byte_at(name, 19) {
-            b'r' => Hook::ModifyBeforeRetryLoop,
-            b'c' => Hook::ModifyBeforeCompletion,
-            _ => Hook::ReadAfterSerialization,
-        },
-        _ => likely_longer_hook(name),
-    }
-}
-
-// The same, of names of at least thirty bytes.
-fn likely_longer_hook(name: &[u8]) -> Hook {
-    match name.len() {
-        30 => Hook::ReadBeforeSerialization,
-        31 => Hook::ReadAfterDeserialization,
-        32 => match byte_at(name, 5) {
-            b'm' => Hook::ModifyBeforeSerialization,
-            _ => Hook::ReadBeforeDeserialization,
-        },
-        33 => Hook::ReadBeforeExecutionClient,
-        34 => Hook::ModifyBeforeDeserialization,
-        36 => Hook::ReadBeforeExecutionOperation,
-        _ => Hook::ModifyBeforeAttemptCompletion,
     }
 }
 

@@ -4,15 +4,16 @@ ghost use Rattle.json_forms.specs.Forms.{optional_at};
 ghost use Rattle.json_forms.specs.JsonData.{data_of};
 ghost use Rattle.json_forms.specs.Lists.{list_of};
 ghost use Rattle.json_forms.specs.Reading.{Reads};
-ghost use Rattle.json_values.specs.SettingReadings.{timeouts_at, version_at, spec_at, mode_at};
-ghost use Rattle.json_values.specs.SettingReadings.{reconnect_at, retry_at, stall_at, marked};
-ghost use Rattle.json_values.specs.SettingReadings.{setting_at, user_key, front_key, back_key};
-ghost use Rattle.json_values.specs.SettingReadings.{key_of_text, layer_entry_at, layer_at};
+ghost use Rattle.json_values.specs.SettingForms.{timeouts_data, spec_data, retry_data, stall_data};
+ghost use Rattle.json_values.specs.SettingForms.{value_data, timeouts_at, version_at, spec_at};
+ghost use Rattle.json_values.specs.SettingForms.{mode_at, reconnect_at, retry_at, stall_at};
+ghost use Rattle.json_values.specs.SettingForms.{marked, setting_at};
+ghost use Rattle.json_values.specs.SettingReadings.{user_key, key_of_text};
+ghost use Rattle.json_values.specs.SettingReadings.{layer_entry_at, layer_at};
 ghost use Rattle.json_forms.specs.declared.read.ReadError.TheVariants.{Memory};
 ghost use Rattle.json_forms.specs.View.{view, items_view};
 ghost use Rattle.json_forms.specs.Prints.{null_or};
-ghost use Rattle.json_values.specs.Values.{timeouts_data, spec_data, retry_data, stall_data};
-ghost use Rattle.json_values.specs.Values.{value_data, key_text, layer_entry_data, layer_data};
+ghost use Rattle.json_values.specs.Values.{key_text, layer_entry_data, layer_data};
 ghost use Rattle.serde_json.specs.Data.{string};
 
 use crate::names::{
@@ -32,7 +33,7 @@ use smithy_types::{
 use std::alloc::Global;
 
 /// The four deadlines.
-#[tactic(auto, unfolding(crate::specs::Values::timeouts_data))]
+#[tactic(auto, unfolding(crate::specs::SettingForms::timeouts_data))]
 pub fn print_timeouts(alloc: Global, timeouts: TimeoutConfig) -> Result<Json, OutOfMemory>
     ensures { IfOk result (λ j. data_of j ≡ timeouts_data timeouts) }
 {
@@ -46,7 +47,7 @@ pub fn print_timeouts(alloc: Global, timeouts: TimeoutConfig) -> Result<Json, Ou
 }
 
 /// Null where there is no specification.
-#[tactic(auto, unfolding(crate::specs::Values::spec_data))]
+#[tactic(auto, unfolding(crate::specs::SettingForms::spec_data))]
 pub fn print_optional_spec(alloc: Global, spec: Option<RetrySpec>) -> Result<Json, OutOfMemory>
     ensures { IfOk result (λ j. data_of j ≡ null_or spec_data spec) }
 {
@@ -62,7 +63,7 @@ pub fn print_optional_spec(alloc: Global, spec: Option<RetrySpec>) -> Result<Jso
 }
 
 /// How an operation is retried.
-#[tactic(auto, unfolding(crate::specs::Values::retry_data))]
+#[tactic(auto, unfolding(crate::specs::SettingForms::retry_data))]
 pub fn print_retry(alloc: Global, retry: RetryConfig) -> Result<Json, OutOfMemory>
     ensures { IfOk result (λ j. data_of j ≡ retry_data retry) }
 {
@@ -78,7 +79,7 @@ pub fn print_retry(alloc: Global, retry: RetryConfig) -> Result<Json, OutOfMemor
 }
 
 /// Whether streams that stall are given up.
-#[tactic(auto, unfolding(crate::specs::Values::stall_data))]
+#[tactic(auto, unfolding(crate::specs::SettingForms::stall_data))]
 pub fn print_stall(alloc: Global, stall: StalledStreamProtectionConfig) -> Result<Json, OutOfMemory>
     ensures { IfOk result (λ j. data_of j ≡ stall_data stall) }
 {
@@ -88,7 +89,7 @@ pub fn print_stall(alloc: Global, stall: StalledStreamProtectionConfig) -> Resul
 }
 
 /// A setting's value. A mark's is true.
-#[tactic(auto, unfolding(crate::specs::Values::value_data))]
+#[tactic(auto, unfolding(crate::specs::SettingForms::value_data))]
 pub fn print_value(alloc: Global, setting: &Setting) -> Result<Json, OutOfMemory>
     ensures { IfOk result (λ j. data_of j ≡ value_data setting.now) }
 {
@@ -159,7 +160,7 @@ pub fn print_layer(alloc: Global, layer: &Layer) -> Result<Json, OutOfMemory>
 }
 
 /// The four deadlines.
-#[tactic(auto, unfolding(crate::specs::SettingReadings::timeouts_at))]
+#[tactic(auto, unfolding(crate::specs::SettingForms::timeouts_at))]
 pub fn read_timeouts(value: &Value) -> Result<TimeoutConfig, ReadError>
     ensures { Reads result (timeouts_at (view value.now)) }
 {
@@ -177,7 +178,7 @@ pub fn read_timeouts(value: &Value) -> Result<TimeoutConfig, ReadError>
 }
 
 /// A specification of retries.
-#[tactic(auto, unfolding(crate::specs::SettingReadings::spec_at))]
+#[tactic(auto, unfolding(crate::specs::SettingForms::spec_at))]
 pub fn read_spec(value: &Value) -> Result<RetrySpec, ReadError>
     ensures { Reads result (spec_at (view value.now)) }
 {
@@ -203,7 +204,7 @@ pub fn read_optional_spec(value: &Value) -> Result<Option<RetrySpec>, ReadError>
     }
 }
 
-#[tactic(auto, unfolding(crate::specs::SettingReadings::version_at))]
+#[tactic(auto, unfolding(crate::specs::SettingForms::version_at))]
 fn read_version(value: &Value) -> Result<RetrySpecVersion, ReadError>
     ensures { Reads result (version_at (view value.now)) }
 {
@@ -213,7 +214,7 @@ fn read_version(value: &Value) -> Result<RetrySpecVersion, ReadError>
     }
 }
 
-#[tactic(auto, unfolding(crate::specs::SettingReadings::mode_at))]
+#[tactic(auto, unfolding(crate::specs::SettingForms::mode_at))]
 fn read_mode(value: &Value) -> Result<RetryMode, ReadError>
     ensures { Reads result (mode_at (view value.now)) }
 {
@@ -223,7 +224,7 @@ fn read_mode(value: &Value) -> Result<RetryMode, ReadError>
     }
 }
 
-#[tactic(auto, unfolding(crate::specs::SettingReadings::reconnect_at))]
+#[tactic(auto, unfolding(crate::specs::SettingForms::reconnect_at))]
 fn read_reconnect(value: &Value) -> Result<ReconnectMode, ReadError>
     ensures { Reads result (reconnect_at (view value.now)) }
 {
@@ -234,7 +235,7 @@ fn read_reconnect(value: &Value) -> Result<ReconnectMode, ReadError>
 }
 
 /// How an operation is retried.
-#[tactic(auto, unfolding(crate::specs::SettingReadings::retry_at))]
+#[tactic(auto, unfolding(crate::specs::SettingForms::retry_at))]
 pub fn read_retry(value: &Value) -> Result<RetryConfig, ReadError>
     ensures { Reads result (retry_at (view value.now)) }
 {
@@ -258,7 +259,7 @@ pub fn read_retry(value: &Value) -> Result<RetryConfig, ReadError>
 }
 
 /// Whether streams that stall are given up.
-#[tactic(auto, unfolding(crate::specs::SettingReadings::stall_at))]
+#[tactic(auto, unfolding(crate::specs::SettingForms::stall_at))]
 pub fn read_stall(value: &Value) -> Result<StalledStreamProtectionConfig, ReadError>
     ensures { Reads result (stall_at (view value.now)) }
 {
@@ -282,7 +283,7 @@ fn read_mark(mark: Setting, value: &Value) -> Result<Setting, ReadError>
 }
 
 /// The value of a key's setting.
-#[tactic(auto, unfolding(crate::specs::SettingReadings::setting_at))]
+#[tactic(auto, unfolding(crate::specs::SettingForms::setting_at))]
 pub fn read_setting(alloc: Global, key: &SettingKey, value: &Value) -> Result<Setting, ReadError>
     ensures { Reads result (setting_at key.now (view value.now)) }
 {
@@ -331,58 +332,6 @@ pub fn read_optional_setting(
     }
 }
 
-// The first keys of the table.
-#[tactic(auto, unfolding(crate::specs::SettingReadings::front_key))]
-fn front_key(text: &str) -> Option<SettingKey>
-    ensures { result ≡ front_key text.now }
-{
-    if text == "timeouts" {
-        Some(SettingKey::Timeouts)
-    } else if text == "retry" {
-        Some(SettingKey::Retry)
-    } else if text == "stall" {
-        Some(SettingKey::Stall)
-    } else if text == "load_body" {
-        Some(SettingKey::LoadBody)
-    } else if text == "partition" {
-        Some(SettingKey::Partition)
-    } else if text == "bucket" {
-        Some(SettingKey::Bucket)
-    } else if text == "prefix" {
-        Some(SettingKey::Prefix)
-    } else if text == "preference" {
-        Some(SettingKey::Preference)
-    } else {
-        None
-    }
-}
-
-// Those behind them.
-#[tactic(auto, unfolding(crate::specs::SettingReadings::back_key))]
-fn back_key(text: &str) -> Option<SettingKey>
-    ensures { result ≡ back_key text.now }
-{
-    if text == "v2" {
-        Some(SettingKey::V2)
-    } else if text == "endpoint_params" {
-        Some(SettingKey::EndpointParams)
-    } else if text == "auth_params" {
-        Some(SettingKey::AuthParams)
-    } else if text == "enforce_length" {
-        Some(SettingKey::EnforceLength)
-    } else if text == "disable" {
-        Some(SettingKey::Disable)
-    } else if text == "capture" {
-        Some(SettingKey::Capture)
-    } else if text == "poisoned" {
-        Some(SettingKey::Poisoned)
-    } else if text == "upload" {
-        Some(SettingKey::Upload)
-    } else {
-        None
-    }
-}
-
 // A key of the caller's own.
 #[tactic(auto, unfolding(crate::specs::SettingReadings::user_key))]
 fn user_key(alloc: Global, text: &str) -> Result<SettingKey, ReadError>
@@ -399,13 +348,10 @@ fn user_key(alloc: Global, text: &str) -> Result<SettingKey, ReadError>
 pub fn key_named(alloc: Global, text: &str) -> Result<SettingKey, ReadError>
     ensures { Reads result (key_of_text text.now) }
 {
-    if let Some(key) = front_key(text) {
-        return Ok(key);
+    match SettingKey::named(text) {
+        Some(key) => Ok(key),
+        None => user_key(alloc, text),
     }
-    if let Some(key) = back_key(text) {
-        return Ok(key);
-    }
-    user_key(alloc, text)
 }
 
 /// What a layer says of one key.

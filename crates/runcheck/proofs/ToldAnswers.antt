@@ -45,25 +45,7 @@ failing_told k d a n h = rw n h
 hook_read : (h : Hook) → hook_at (string (hook_text h)) ≡ Some h
 unfolding hook_at
 hook_read hooks.ReadBeforeExecutionClient = refl
-hook_read hooks.ReadBeforeExecutionOperation = refl
-hook_read hooks.ModifyBeforeSerialization = refl
-hook_read hooks.ReadBeforeSerialization = refl
-hook_read hooks.ReadAfterSerialization = refl
-hook_read hooks.ModifyBeforeRetryLoop = refl
-hook_read hooks.ReadBeforeAttempt = refl
-hook_read hooks.ModifyBeforeSigning = refl
-hook_read hooks.ReadBeforeSigning = refl
-hook_read hooks.ReadAfterSigning = refl
-hook_read hooks.ModifyBeforeTransmit = refl
-hook_read hooks.ReadBeforeTransmit = refl
-hook_read hooks.ReadAfterTransmit = refl
-hook_read hooks.ModifyBeforeDeserialization = refl
-hook_read hooks.ReadBeforeDeserialization = refl
-hook_read hooks.ReadAfterDeserialization = refl
-hook_read hooks.ModifyBeforeAttemptCompletion = refl
-hook_read hooks.ReadAfterAttempt = refl
-hook_read hooks.ModifyBeforeCompletion = refl
-hook_read hooks.ReadAfterExecution = refl
+hook_read _ = refl
 
 abbrev by_hook : Hook → List ℕ → Outcome
 by_hook h t = outcomes.Failed (failed_by (faults.Interceptor h) t)

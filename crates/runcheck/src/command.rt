@@ -8,7 +8,7 @@ use cli_shell::command::{Answer, Command};
 use cli_shell::status::PrintStatus;
 use json_forms::Json;
 use smithy_types::OutOfMemory;
-use std::alloc::{AllocError, Global};
+use std::alloc::Global;
 
 /// Tells whether the input is the print of a whole run and of its answer.
 #[derive(Drop)]
@@ -20,16 +20,15 @@ impl Command for Check {
     ghost says = { λ _ bytes s. check_says bytes s };
 
     #[tactic(auto, using(crate::proofs::CheckSaying::verdict_said))]
-    fn answer(&self, alloc: Global, bytes: &[u8]) -> Result<Answer, AllocError> {
-        match check(alloc, bytes) {
-            Ok(verdict) => answer_by(alloc, verdict),
-            Err(OutOfMemory) => Err(AllocError),
-        }
+    fn answer(&self, alloc: Global, bytes: &[u8]) -> Result<Answer, OutOfMemory> {
+        let verdict = check(alloc, bytes)?;
+        let answer = answer_by(alloc, verdict)?;
+        Ok(answer)
     }
 }
 
 // What is said by a verdict.
-fn answer_by(alloc: Global, verdict: Verdict) -> Result<Answer, AllocError>
+fn answer_by(alloc: Global, verdict: Verdict) -> Result<Answer, OutOfMemory>
     ensures { IfOk result (λ a. verdict_says verdict (said a)) }
 {
     match verdict {
@@ -39,13 +38,11 @@ fn answer_by(alloc: Global, verdict: Verdict) -> Result<Answer, AllocError>
 }
 
 // A print of one word.
-fn print_word(alloc: Global, word: &str, outcome: PrintStatus) -> Result<Answer, AllocError>
+fn print_word(alloc: Global, word: &str, outcome: PrintStatus) -> Result<Answer, OutOfMemory>
     ensures { IfOk result (λ a. said a ≡ prints outcome (line_of word.now)) }
 {
-    match write_word(alloc, word) {
-        Ok(text) => Ok(Answer::Print(text, outcome)),
-        Err(OutOfMemory) => Err(AllocError),
-    }
+    let text = write_word(alloc, word)?;
+    Ok(Answer::Print(text, outcome))
 }
 
 // The line of one word.

@@ -59,11 +59,11 @@ fn read_failing_hook(alloc: Global, value: &Value) -> Result<Answer, ReadError>
     let (tag, change, settings, failure) = read::quadruple(value)?;
     read_word("Hook", tag)?;
     let outcome = read_hook_outcome(alloc, read_tagged("Outcome", change)?)?;
+    let outcome = Shared::new(alloc, outcome)?;
     let settings = read_layer(alloc, settings)?;
     let failure = read_optional_text(alloc, failure)?;
-    let change = Change::Outcome(Shared::new(alloc, outcome)?);
     let answer = HookAnswer {
-        change: Some(change),
+        change: Some(Change::Outcome(outcome)),
         settings,
         failure,
     };

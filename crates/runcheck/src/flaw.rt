@@ -8,6 +8,7 @@ use crate::failing::read_told_answer;
 use crate::follow::take;
 use crate::judge::{Verdict, check};
 use crate::reading::grammar::run;
+use crate::reading::production::Production;
 use crate::reading::walk::{Seen, Walk};
 use crate::told::{Call, check_json, read_head};
 use json_forms::lines::lines_of;
@@ -232,7 +233,7 @@ fn line_head(alloc: Global, line: &str) -> Result<RunHead, Stop> {
 }
 
 // The line of a print behind so many others.
-fn line_at(alloc: Global, printed: &[u8], place: usize) -> Result<String, AllocError> {
+fn line_at(alloc: Global, printed: &[u8], place: usize) -> Result<String, OutOfMemory> {
     let mut found = String::new(alloc);
     if let Ok(text) = str::from_utf8(printed) {
         if let Some(line) = text.lines().nth(place) {
@@ -367,14 +368,25 @@ fn flaw_of_run(
     head: &RunHead,
     lines: (&str, &[&str], &str),
 ) -> Result<(usize, Cause), OutOfMemory> {
-    let (first, between, last) = lines;
     let production = run(alloc, head.stop)?;
+    flaw_along(alloc, &production, text, head, lines)
+}
+
+// The same of a run of this production.
+fn flaw_along(
+    alloc: Global,
+    production: &Production,
+    text: &[u8],
+    head: &RunHead,
+    lines: (&str, &[&str], &str),
+) -> Result<(usize, Cause), OutOfMemory> {
+    let (first, between, last) = lines;
     let standing = Standing::new(alloc, head.input.clone()?)?;
     let before = Seen {
         standing: &standing,
         last: None,
     };
-    let walk = Walk::begin(alloc, &production, before)?;
+    let walk = Walk::begin(alloc, production, before)?;
     let mut course = Course {
         walk,
         standing,
@@ -450,7 +462,7 @@ fn printed_ending(
     standing: Standing,
     head: &RunHead,
 ) -> Result<String, OutOfMemory> {
-    let ending = whole_ending(head, standing.context)?;
+    let ending = whole_ending(head, standing.into_context())?;
     let printed = print_run(alloc, head, &[], &ending)?;
     let line = line_at(alloc, printed.as_slice(), 1)?;
     Ok(line)

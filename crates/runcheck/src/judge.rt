@@ -69,7 +69,7 @@ fn compare(
         (whole_ending head.now followed.standing.context))) }
 {
     let Followed { entries, standing } = followed;
-    let ending = whole_ending(head, standing.context)?;
+    let ending = whole_ending(head, standing.into_context())?;
     let printed = print_run(alloc, head, entries.as_slice(), &ending)?;
     Ok(verdict_of(printed.as_slice() == text))
 }

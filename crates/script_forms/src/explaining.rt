@@ -6,7 +6,8 @@ use crate::shape::ScriptKind;
 use crate::syntax::{Flaw, first_flaw};
 use crate::walk::is_of_form;
 use json::{Error, Reader, Scratch, Value};
-use std::alloc::{AllocError, Global};
+use smithy_types::OutOfMemory;
+use std::alloc::Global;
 
 /// Why a command refused its input.
 #[derive(Clone, Copy, PartialEq, Eq)]
@@ -24,7 +25,7 @@ pub fn explain(
     kind: ScriptKind,
     bytes: &[u8],
     cause: Cause,
-) -> Result<Option<String>, AllocError> {
+) -> Result<Option<String>, OutOfMemory> {
     match str::from_utf8(bytes) {
         Ok(text) => explain_text(alloc, kind, text, cause),
         Err(error) => {
@@ -41,7 +42,7 @@ fn explain_text(
     kind: ScriptKind,
     text: &str,
     cause: Cause,
-) -> Result<Option<String>, AllocError> {
+) -> Result<Option<String>, OutOfMemory> {
     if let Some(flaw) = first_flaw(alloc, text)? {
         return Ok(Some(not_json(alloc, kind, text, flaw)?));
     }
@@ -49,7 +50,7 @@ fn explain_text(
     let mut reader = Reader::new(text, &mut scratch)?;
     match Value::read(alloc, &mut reader, MAX_DEPTH) {
         Ok(script) => explain_value(alloc, kind, text, &script, cause),
-        Err(Error::OutOfMemory) => Err(AllocError),
+        Err(Error::OutOfMemory) => Err(OutOfMemory),
         Err(_) => Ok(None),
     }
 }
@@ -61,7 +62,7 @@ fn explain_value(
     text: &str,
     script: &Value,
     cause: Cause,
-) -> Result<Option<String>, AllocError> {
+) -> Result<Option<String>, OutOfMemory> {
     let mut finder = Finder::new(alloc, kind, script, cause == Cause::Limit);
     if is_of_form(&mut finder, script, kind.form())? {
         return Ok(None);
@@ -76,7 +77,7 @@ fn found_line(
     text: &str,
     script: &Value,
     finder: &Finder,
-) -> Result<String, AllocError> {
+) -> Result<String, OutOfMemory> {
     let part = part_at(alloc, text, finder.path.as_slice(), finder.at_name)?;
     let mut line = place_text(alloc, kind, text.as_bytes(), part.start)?;
     let path = path_text(alloc, script, finder.path.as_slice())?;
@@ -93,7 +94,12 @@ fn found_line(
 }
 
 // The line of a text that isn't JSON.
-fn not_json(alloc: Global, kind: ScriptKind, text: &str, flaw: Flaw) -> Result<String, AllocError> {
+fn not_json(
+    alloc: Global,
+    kind: ScriptKind,
+    text: &str,
+    flaw: Flaw,
+) -> Result<String, OutOfMemory> {
     let place = place_text(alloc, kind, text.as_bytes(), flaw.offset)?;
     let part = Part {
         start: flaw.offset,
@@ -101,7 +107,7 @@ fn not_json(alloc: Global, kind: ScriptKind, text: &str, flaw: Flaw) -> Result<S
     };
     let found = found_text(alloc, text.as_bytes(), part)?;
     let expected = flaw.expected;
-    format!(in alloc; "{place}not JSON: expected {expected}, found {found}")
+    Ok(format!(in alloc; "{place}not JSON: expected {expected}, found {found}")?)
 }
 
 // `client script, line 7, column 12: `
@@ -110,8 +116,8 @@ fn place_text(
     kind: ScriptKind,
     text: &[u8],
     offset: usize,
-) -> Result<String, AllocError> {
+) -> Result<String, OutOfMemory> {
     let command = kind.command();
     let (line, column) = line_and_column(text, offset);
-    format!(in alloc; "{command} script, line {line}, column {column}: ")
+    Ok(format!(in alloc; "{command} script, line {line}, column {column}: ")?)
 }

@@ -3,7 +3,8 @@
 use crate::shape::ScriptKind;
 use indexmap::IndexSet;
 use json::Value;
-use std::alloc::{AllocError, Global};
+use smithy_types::OutOfMemory;
+use std::alloc::Global;
 
 /// The most fuel of a script, that of all its invocations together.
 pub const FUEL_LIMIT: u64 = 100_000;
@@ -65,7 +66,7 @@ impl Finder {
     }
 
     /// Goes to an item or a member at this place.
-    pub fn enter(&mut self, place: usize) -> Result<(), AllocError> {
+    pub fn enter(&mut self, place: usize) -> Result<(), OutOfMemory> {
         self.path.push(place)?;
         Ok(())
     }
@@ -76,7 +77,7 @@ impl Finder {
     }
 
     /// Ends the walk here: this is wrong.
-    pub fn refuse(&mut self, parts: &[&str]) -> Result<bool, AllocError> {
+    pub fn refuse(&mut self, parts: &[&str]) -> Result<bool, OutOfMemory> {
         for part in parts {
             self.reason.push_str(*part)?;
         }
@@ -84,19 +85,19 @@ impl Finder {
     }
 
     /// Ends the walk here: this is expected, and something else was found.
-    pub fn expect(&mut self, wanted: &str) -> Result<bool, AllocError> {
+    pub fn expect(&mut self, wanted: &str) -> Result<bool, OutOfMemory> {
         self.shows_found = true;
         self.refuse(&["expected ", wanted])
     }
 
     /// Ends the walk at an item or a member: this is wrong there.
-    pub fn refuse_at(&mut self, place: usize, parts: &[&str]) -> Result<bool, AllocError> {
+    pub fn refuse_at(&mut self, place: usize, parts: &[&str]) -> Result<bool, OutOfMemory> {
         self.enter(place)?;
         self.refuse(parts)
     }
 
     /// Ends the walk here: so much is above a limit.
-    pub fn above(&mut self, number: u64, what: &str, limit: u64) -> Result<bool, AllocError> {
+    pub fn above(&mut self, number: u64, what: &str, limit: u64) -> Result<bool, OutOfMemory> {
         let number = format!(in self.alloc; "{number}")?;
         let limit = format!(in self.alloc; "{limit}")?;
         self.refuse(&[

@@ -9,11 +9,11 @@ use crate::tables::answers::KINDS;
 use crate::tables::settings::SETTING_KEYS;
 use crate::tables::table;
 use json::Value;
-use std::alloc::AllocError;
+use smithy_types::OutOfMemory;
 
 /// Whether the value is of the form, as far as that is told without its parts: what it is, how many
 /// items it has, and the word or the key that it begins with.
-pub fn head_fits(finder: &mut Finder, value: &Value, form: Form) -> Result<bool, AllocError> {
+pub fn head_fits(finder: &mut Finder, value: &Value, form: Form) -> Result<bool, OutOfMemory> {
     match table(form).shape {
         Shape::Null => plainly(finder, form, matches!(value, Value::Null)),
         Shape::Truth => plainly(finder, form, matches!(value, Value::Bool(_))),
@@ -35,7 +35,7 @@ pub fn head_fits(finder: &mut Finder, value: &Value, form: Form) -> Result<bool,
 }
 
 // Tells what is wanted where the value isn't so.
-fn plainly(finder: &mut Finder, form: Form, fits: bool) -> Result<bool, AllocError> {
+fn plainly(finder: &mut Finder, form: Form, fits: bool) -> Result<bool, OutOfMemory> {
     if fits {
         return Ok(true);
     }
@@ -55,7 +55,7 @@ fn place_fits(
     value: &Value,
     count: u64,
     what: &str,
-) -> Result<bool, AllocError> {
+) -> Result<bool, OutOfMemory> {
     match value.as_u64() {
         Some(place) if place < count => Ok(true),
         _ => {
@@ -164,7 +164,7 @@ fn word_fits(
     value: &Value,
     form: Form,
     words: &[&str],
-) -> Result<bool, AllocError> {
+) -> Result<bool, OutOfMemory> {
     if let Value::String(text) = value {
         if is_among(words, text) {
             return Ok(true);
@@ -189,7 +189,7 @@ fn count_fits(
     value: &Value,
     form: Form,
     count: usize,
-) -> Result<bool, AllocError> {
+) -> Result<bool, OutOfMemory> {
     match value {
         Value::Array(items) if items.len() == count => Ok(true),
         Value::Array(items) => other_count(finder, form, count, items.len()),
@@ -203,7 +203,7 @@ fn other_count(
     form: Form,
     count: usize,
     found: usize,
-) -> Result<bool, AllocError> {
+) -> Result<bool, OutOfMemory> {
     let counts = format!(in finder.alloc; ": {count} items, and there are {found}")?;
     finder.refuse(&["expected ", table(form).wanted, counts.as_str()])
 }
@@ -214,7 +214,7 @@ fn tagged_fits(
     form: Form,
     tag: &str,
     count: usize,
-) -> Result<bool, AllocError> {
+) -> Result<bool, OutOfMemory> {
     match value {
         Value::Array(items) if items.is_empty() || begins_with(tag, items) => {
             count_fits(finder, value, form, count.saturating_add(1))
@@ -232,7 +232,7 @@ fn keyed_fits(
     value: &Value,
     form: Form,
     keys: Keys,
-) -> Result<bool, AllocError> {
+) -> Result<bool, OutOfMemory> {
     if !count_fits(finder, value, form, 2)? {
         return Ok(false);
     }
@@ -246,7 +246,7 @@ fn keyed_fits(
 }
 
 // Whether it is a key.
-fn key_fits(finder: &mut Finder, keys: Keys, key: &str) -> Result<bool, AllocError> {
+fn key_fits(finder: &mut Finder, keys: Keys, key: &str) -> Result<bool, OutOfMemory> {
     if form_of_key(keys, key).is_some() {
         return Ok(true);
     }
@@ -277,7 +277,7 @@ fn no_choice(
     value: &Value,
     form: Form,
     forms: &[Form],
-) -> Result<bool, AllocError> {
+) -> Result<bool, OutOfMemory> {
     match value {
         Value::Array(items) => {
             if !items.is_empty() && has_tags(forms) {
@@ -302,7 +302,7 @@ fn hint_at_first(
     finder: &mut Finder,
     first: Option<&Value>,
     forms: &[Form],
-) -> Result<(), AllocError> {
+) -> Result<(), OutOfMemory> {
     let mut tags = Vec::new(finder.alloc);
     for form in forms {
         if let Shape::Tagged(tag, _) = table(*form).shape {
@@ -316,7 +316,7 @@ fn hint_at_first(
 }
 
 // Tells the word of a choice that is nearest.
-fn hint_at_words(finder: &mut Finder, forms: &[Form], word: &str) -> Result<(), AllocError> {
+fn hint_at_words(finder: &mut Finder, forms: &[Form], word: &str) -> Result<(), OutOfMemory> {
     let mut known = Vec::new(finder.alloc);
     for form in forms {
         if let Shape::Word(words) = table(*form).shape {

@@ -3,7 +3,7 @@
 use crate::finder::{FUEL_LIMIT, Finder, INVOCATION_LIMIT};
 use crate::form::Form;
 use json::Value;
-use std::alloc::AllocError;
+use smithy_types::OutOfMemory;
 
 /// The most tokens of a bucket.
 const CAPACITY_LIMIT: u64 = 500_000_000;
@@ -30,7 +30,7 @@ const WAITER_LIMIT: u64 = 64;
 const KEY_LIMIT: u64 = 64;
 
 /// Whether a value of the form is within its limit, where limits are judged.
-pub fn within_limits(finder: &mut Finder, value: &Value, form: Form) -> Result<bool, AllocError> {
+pub fn within_limits(finder: &mut Finder, value: &Value, form: Form) -> Result<bool, OutOfMemory> {
     if !finder.judges_limits {
         return Ok(true);
     }
@@ -51,7 +51,7 @@ pub fn within_limits(finder: &mut Finder, value: &Value, form: Form) -> Result<b
     }
 }
 
-fn at_most(finder: &mut Finder, found: u64, what: &str, limit: u64) -> Result<bool, AllocError> {
+fn at_most(finder: &mut Finder, found: u64, what: &str, limit: u64) -> Result<bool, OutOfMemory> {
     if found <= limit {
         return Ok(true);
     }
@@ -85,7 +85,7 @@ fn blob_bytes(value: &Value) -> u64 {
 }
 
 // A head has so many headers, and so many bytes of names and values.
-fn head_fits(finder: &mut Finder, value: &Value) -> Result<bool, AllocError> {
+fn head_fits(finder: &mut Finder, value: &Value) -> Result<bool, OutOfMemory> {
     let headers = count(value);
     if headers > HEADER_LIMIT {
         return finder.above(headers, "headers", HEADER_LIMIT);
@@ -109,7 +109,7 @@ fn head_bytes(value: &Value) -> u64 {
 }
 
 // The fuel of all invocations together has a limit.
-fn fuel_fits(finder: &mut Finder, value: &Value) -> Result<bool, AllocError> {
+fn fuel_fits(finder: &mut Finder, value: &Value) -> Result<bool, OutOfMemory> {
     let fuel = number(value);
     match finder.fuel_left.checked_sub(fuel) {
         Some(left) => {
@@ -124,7 +124,7 @@ fn fuel_fits(finder: &mut Finder, value: &Value) -> Result<bool, AllocError> {
 }
 
 // The invocations of all callers together have a limit.
-fn invocations_fit(finder: &mut Finder, value: &Value) -> Result<bool, AllocError> {
+fn invocations_fit(finder: &mut Finder, value: &Value) -> Result<bool, OutOfMemory> {
     let found = count(value);
     match finder.invocations_left.checked_sub(found) {
         Some(left) => {
@@ -143,7 +143,7 @@ fn invocations_fit(finder: &mut Finder, value: &Value) -> Result<bool, AllocErro
 }
 
 // The keys of all layers together have a limit, and the name of a caller's own that of a text.
-fn key_fits(finder: &mut Finder, value: &Value) -> Result<bool, AllocError> {
+fn key_fits(finder: &mut Finder, value: &Value) -> Result<bool, OutOfMemory> {
     let Some(Value::String(key)) = value.at(0) else {
         return Ok(true);
     };

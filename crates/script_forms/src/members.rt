@@ -6,7 +6,8 @@ use crate::names::{listed, nearest};
 use crate::shape::{Member, Shape};
 use crate::tables::table;
 use json::Value;
-use std::alloc::{AllocError, Global};
+use smithy_types::OutOfMemory;
+use std::alloc::Global;
 
 // The place of a member that isn't there.
 const NOWHERE: usize = usize::MAX;
@@ -29,7 +30,7 @@ pub fn last_places(
     alloc: Global,
     known: &[Member],
     members: &[(&str, Value)],
-) -> Result<Vec<usize>, AllocError> {
+) -> Result<Vec<usize>, OutOfMemory> {
     let mut lasts = vec![in alloc; NOWHERE; known.len()]?;
     let mut place = 0usize;
     for member in members {
@@ -55,7 +56,7 @@ pub fn known_member(known: &[Member], lasts: &[usize], name: &str, place: usize)
 }
 
 /// Refuses a member's name: it is none of these.
-pub fn refuse_name(finder: &mut Finder, known: &[Member], name: &str) -> Result<bool, AllocError> {
+pub fn refuse_name(finder: &mut Finder, known: &[Member], name: &str) -> Result<bool, OutOfMemory> {
     finder.at_name = true;
     let names = names_of(finder.alloc, known)?;
     let others = match nearest(finder.alloc, &names, name)? {
@@ -66,7 +67,7 @@ pub fn refuse_name(finder: &mut Finder, known: &[Member], name: &str) -> Result<
 }
 
 // The nearest name as a question, and the others.
-fn told_first(finder: &Finder, names: &[&str], near: &str) -> Result<String, AllocError> {
+fn told_first(finder: &Finder, names: &[&str], near: &str) -> Result<String, OutOfMemory> {
     let mut others = Vec::new(finder.alloc);
     for name in names {
         if *name != near {
@@ -74,16 +75,16 @@ fn told_first(finder: &Finder, names: &[&str], near: &str) -> Result<String, All
         }
     }
     let others = listed(finder.alloc, &others)?;
-    format!(in finder.alloc; "; did you mean \"{near}\"? The others are {others}")
+    Ok(format!(in finder.alloc; "; did you mean \"{near}\"? The others are {others}")?)
 }
 
 // All names.
-fn all_told(finder: &Finder, names: &[&str]) -> Result<String, AllocError> {
+fn all_told(finder: &Finder, names: &[&str]) -> Result<String, OutOfMemory> {
     let names = listed(finder.alloc, names)?;
-    format!(in finder.alloc; "; the members are {names}")
+    Ok(format!(in finder.alloc; "; the members are {names}")?)
 }
 
-fn names_of(alloc: Global, known: &[Member]) -> Result<Vec<&'static str>, AllocError> {
+fn names_of(alloc: Global, known: &[Member]) -> Result<Vec<&'static str>, OutOfMemory> {
     let mut names = Vec::new(alloc);
     for member in known {
         names.push(member.name)?;
@@ -96,7 +97,7 @@ pub fn none_missing(
     finder: &mut Finder,
     known: &[Member],
     lasts: &[usize],
-) -> Result<bool, AllocError> {
+) -> Result<bool, OutOfMemory> {
     let mut missing = None;
     for index in 0..known.len() {
         if missing.is_none() && is_missing(known, lasts, index) {

@@ -1,7 +1,8 @@
 //! The nearest of some names.
 
 use crate::finder::Finder;
-use std::alloc::{AllocError, Global};
+use smithy_types::OutOfMemory;
+use std::alloc::Global;
 use strsim::levenshtein;
 
 /// The most bytes of a name that others are compared with.
@@ -13,7 +14,7 @@ pub fn nearest<'n>(
     alloc: Global,
     names: &[&'n str],
     word: &str,
-) -> Result<Option<&'n str>, AllocError> {
+) -> Result<Option<&'n str>, OutOfMemory> {
     let mut found = None;
     if word.len() > NAME_LIMIT {
         return Ok(found);
@@ -30,7 +31,7 @@ pub fn nearest<'n>(
 }
 
 /// Tells the nearest of these names behind the reason, where one is near.
-pub fn hint_at(finder: &mut Finder, names: &[&str], word: &str) -> Result<(), AllocError> {
+pub fn hint_at(finder: &mut Finder, names: &[&str], word: &str) -> Result<(), OutOfMemory> {
     if let Some(name) = nearest(finder.alloc, names, word)? {
         finder.hint.push_str("; did you mean \"")?;
         finder.hint.push_str(name)?;
@@ -40,7 +41,7 @@ pub fn hint_at(finder: &mut Finder, names: &[&str], word: &str) -> Result<(), Al
 }
 
 /// The names, each in quotes, with commas.
-pub fn listed(alloc: Global, names: &[&str]) -> Result<String, AllocError> {
+pub fn listed(alloc: Global, names: &[&str]) -> Result<String, OutOfMemory> {
     let mut text = String::new(alloc);
     for name in names {
         if !text.is_empty() {

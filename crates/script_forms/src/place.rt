@@ -1,7 +1,8 @@
 //! Where in a text something stands.
 
 use json::{Reader, Scratch, Token, Value};
-use std::alloc::{AllocError, Global};
+use smithy_types::OutOfMemory;
+use std::alloc::Global;
 
 /// How deep arrays and objects may nest.
 pub const MAX_DEPTH: usize = 127;
@@ -39,7 +40,7 @@ pub fn part_at(
     text: &str,
     path: &[usize],
     at_name: bool,
-) -> Result<Part, AllocError> {
+) -> Result<Part, OutOfMemory> {
     let mut scratch = Scratch::new(alloc);
     let mut reader = Reader::new(text, &mut scratch)?;
     let mut name = 0;
@@ -75,7 +76,7 @@ fn step_into(reader: &mut Reader<'_>, place: usize) -> usize {
 }
 
 /// The path in words: `clients[0].retry[1]`, and "the script" for the whole.
-pub fn path_text(alloc: Global, script: &Value, path: &[usize]) -> Result<String, AllocError> {
+pub fn path_text(alloc: Global, script: &Value, path: &[usize]) -> Result<String, OutOfMemory> {
     let mut text = String::new(alloc);
     let mut value = script;
     for place in path {
@@ -115,7 +116,7 @@ fn push_step(
     text: &mut String,
     value: &Value,
     place: usize,
-) -> Result<(), AllocError> {
+) -> Result<(), OutOfMemory> {
     match value {
         Value::Object(members) => match members.get(place) {
             Some(member) => push_name(text, member.0),
@@ -123,13 +124,14 @@ fn push_step(
         },
         _ => {
             let index = format!(in alloc; "[{place}]")?;
-            text.push_str(index.as_str())
+            text.push_str(index.as_str())?;
+            Ok(())
         }
     }
 }
 
 // Adds a member's name, cut where it is long.
-fn push_name(text: &mut String, name: &str) -> Result<(), AllocError> {
+fn push_name(text: &mut String, name: &str) -> Result<(), OutOfMemory> {
     if !text.is_empty() {
         text.push_str(".")?;
     }
@@ -137,7 +139,7 @@ fn push_name(text: &mut String, name: &str) -> Result<(), AllocError> {
 }
 
 /// What stands in a part of a text, in one line, cut where it is long.
-pub fn found_text(alloc: Global, text: &[u8], part: Part) -> Result<String, AllocError> {
+pub fn found_text(alloc: Global, text: &[u8], part: Part) -> Result<String, OutOfMemory> {
     let mut found = String::new(alloc);
     if let Some(bytes) = text.get(part.start..part.end) {
         if let Ok(slice) = str::from_utf8(bytes) {
@@ -160,7 +162,7 @@ fn without_end(text: &str) -> &str {
 }
 
 // Adds the first characters of a text, with a space for what can't be shown.
-fn push_shown(text: &mut String, added: &str) -> Result<(), AllocError> {
+fn push_shown(text: &mut String, added: &str) -> Result<(), OutOfMemory> {
     let mut count = 0usize;
     for character in added.chars() {
         if count == FOUND_LIMIT {

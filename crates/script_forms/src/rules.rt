@@ -5,10 +5,10 @@ use crate::form::Form;
 use crate::items::begins_with;
 use indexmap::IndexSet;
 use json::Value;
-use std::alloc::AllocError;
+use smithy_types::OutOfMemory;
 
 /// Whether what is asked of the value's parts together holds.
-pub fn rules_hold(finder: &mut Finder, value: &Value, form: Form) -> Result<bool, AllocError> {
+pub fn rules_hold(finder: &mut Finder, value: &Value, form: Form) -> Result<bool, OutOfMemory> {
     match form {
         Form::WaitScript | Form::Waiter => delays_fit(finder, value),
         Form::Client => schemes_are_placed(finder, value),
@@ -21,7 +21,7 @@ pub fn rules_hold(finder: &mut Finder, value: &Value, form: Form) -> Result<bool
 }
 
 // The greatest delay is at least the least one.
-fn delays_fit(finder: &mut Finder, value: &Value) -> Result<bool, AllocError> {
+fn delays_fit(finder: &mut Finder, value: &Value) -> Result<bool, OutOfMemory> {
     match (number_at(value, "min"), number_at(value, "max")) {
         (Some(least), Some(most)) if most < least => {
             let least = format!(in finder.alloc; "{least}")?;
@@ -80,7 +80,7 @@ fn is_listed(value: Option<&Value>, text: &str) -> bool {
 }
 
 // Each scheme of HTTP has an id of the client's schemes, and no two have the same.
-fn schemes_are_placed(finder: &mut Finder, value: &Value) -> Result<bool, AllocError> {
+fn schemes_are_placed(finder: &mut Finder, value: &Value) -> Result<bool, OutOfMemory> {
     let Some(schemes) = http_schemes_of(value) else {
         return Ok(true);
     };
@@ -130,7 +130,7 @@ fn has_text(items: &[Value], text: &str) -> bool {
 }
 
 // Frames that begin again at their end are at least one.
-fn frames_may_repeat(finder: &mut Finder, value: &Value) -> Result<bool, AllocError> {
+fn frames_may_repeat(finder: &mut Finder, value: &Value) -> Result<bool, OutOfMemory> {
     match (value.at(3), value.at(4)) {
         (Some(Value::Array(frames)), Some(Value::Bool(true))) if frames.is_empty() => {
             finder.refuse_at(4, &["there are no frames that could repeat"])
@@ -140,7 +140,7 @@ fn frames_may_repeat(finder: &mut Finder, value: &Value) -> Result<bool, AllocEr
 }
 
 // A hook that does nothing answers "Done".
-fn hook_does_something(finder: &mut Finder, value: &Value) -> Result<bool, AllocError> {
+fn hook_does_something(finder: &mut Finder, value: &Value) -> Result<bool, OutOfMemory> {
     match (value.at(1), value.at(2), value.at(3)) {
         (Some(Value::Null), Some(Value::Array(layer)), Some(Value::Null)) if layer.is_empty() => {
             finder.refuse(&["a hook that does nothing answers \"Done\""])
@@ -150,7 +150,7 @@ fn hook_does_something(finder: &mut Finder, value: &Value) -> Result<bool, Alloc
 }
 
 // A layer names each key once.
-fn keys_stand_once(finder: &mut Finder, value: &Value) -> Result<bool, AllocError> {
+fn keys_stand_once(finder: &mut Finder, value: &Value) -> Result<bool, OutOfMemory> {
     let mut keys = IndexSet::new(finder.alloc);
     let Value::Array(items) = value else {
         return Ok(true);
@@ -169,7 +169,7 @@ fn keys_stand_once(finder: &mut Finder, value: &Value) -> Result<bool, AllocErro
 }
 
 // Nothing stands before an API key in the query.
-fn query_has_no_prefix(finder: &mut Finder, value: &Value) -> Result<bool, AllocError> {
+fn query_has_no_prefix(finder: &mut Finder, value: &Value) -> Result<bool, OutOfMemory> {
     match (value.at(1), value.at(3)) {
         (Some(Value::String(location)), Some(Value::String(_))) if *location == "Query" => {
             finder.enter(3)?;

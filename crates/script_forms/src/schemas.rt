@@ -6,7 +6,8 @@ use crate::leaves::keys_of;
 use crate::names::listed;
 use crate::shape::{Bytes, Keys, Member, ScriptKind, Shape, Texts};
 use crate::tables::table;
-use std::alloc::{AllocError, Global};
+use smithy_types::OutOfMemory;
+use std::alloc::Global;
 
 /// The most forms that a script has.
 const FORM_LIMIT: usize = 256;
@@ -22,7 +23,7 @@ struct Schema {
 
 /// The schema of a command's scripts (JSON Schema, draft 2020-12), with a line for each form.
 /// Limits, and what is asked of several values together, don't stand in it.
-pub fn write_schema(alloc: Global, kind: ScriptKind) -> Result<Vec<u8>, AllocError> {
+pub fn write_schema(alloc: Global, kind: ScriptKind) -> Result<Vec<u8>, OutOfMemory> {
     let mut schema = Schema {
         alloc,
         text: String::new(alloc),
@@ -41,7 +42,7 @@ pub fn write_schema(alloc: Global, kind: ScriptKind) -> Result<Vec<u8>, AllocErr
 }
 
 impl Schema {
-    fn push(&mut self, parts: &[&str]) -> Result<(), AllocError> {
+    fn push(&mut self, parts: &[&str]) -> Result<(), OutOfMemory> {
         for part in parts {
             self.text.push_str(*part)?;
         }
@@ -49,7 +50,7 @@ impl Schema {
     }
 
     // Defines each form that is named, also those that a definition names first.
-    fn define_all(&mut self) -> Result<(), AllocError> {
+    fn define_all(&mut self) -> Result<(), OutOfMemory> {
         for place in 0..FORM_LIMIT {
             let form = match self.named.get(place) {
                 Some(form) => *form,
@@ -64,7 +65,7 @@ impl Schema {
     }
 
     // `"$ref":"#/$defs/name"`, without braces.
-    fn refer(&mut self, form: Form) -> Result<(), AllocError> {
+    fn refer(&mut self, form: Form) -> Result<(), OutOfMemory> {
         if !self.is_named(form) {
             self.named.push(form)?;
         }
@@ -81,7 +82,7 @@ impl Schema {
     }
 
     // What a form is, without braces.
-    fn define(&mut self, form: Form) -> Result<(), AllocError> {
+    fn define(&mut self, form: Form) -> Result<(), OutOfMemory> {
         match table(form).shape {
             Shape::Null => self.push(&["\"type\":\"null\""]),
             Shape::Truth => self.push(&["\"type\":\"boolean\""]),
@@ -101,7 +102,7 @@ impl Schema {
         }
     }
 
-    fn define_number(&mut self, least: u64, most: u64) -> Result<(), AllocError> {
+    fn define_number(&mut self, least: u64, most: u64) -> Result<(), OutOfMemory> {
         let least = format!(in self.alloc; "{least}")?;
         let most = format!(in self.alloc; "{most}")?;
         self.push(&[
@@ -113,7 +114,7 @@ impl Schema {
     }
 
     // A text, or an object with pairs of digits.
-    fn define_blob(&mut self, bytes: Bytes) -> Result<(), AllocError> {
+    fn define_blob(&mut self, bytes: Bytes) -> Result<(), OutOfMemory> {
         let pattern = match bytes {
             Bytes::Any => "",
             Bytes::HeaderValue =>
@@ -127,12 +128,12 @@ impl Schema {
         ])
     }
 
-    fn define_words(&mut self, words: &[&str]) -> Result<(), AllocError> {
+    fn define_words(&mut self, words: &[&str]) -> Result<(), OutOfMemory> {
         let words = listed(self.alloc, words)?;
         self.push(&["\"enum\":[", words.as_str(), "]"])
     }
 
-    fn define_list(&mut self, item: Form, least: usize) -> Result<(), AllocError> {
+    fn define_list(&mut self, item: Form, least: usize) -> Result<(), OutOfMemory> {
         self.push(&["\"type\":\"array\",\"items\":{"])?;
         self.refer(item)?;
         let least = format!(in self.alloc; "}},\"minItems\":{least}")?;
@@ -140,7 +141,7 @@ impl Schema {
     }
 
     // An array of words and of forms.
-    fn define_row(&mut self, words: &[&str], forms: &[Form]) -> Result<(), AllocError> {
+    fn define_row(&mut self, words: &[&str], forms: &[Form]) -> Result<(), OutOfMemory> {
         self.push(&["\"type\":\"array\",\"prefixItems\":["])?;
         for word in words {
             self.push(&["{\"const\":\"", *word, "\"}"])?;
@@ -157,7 +158,7 @@ impl Schema {
         self.push(&[count.as_str()])
     }
 
-    fn define_choice(&mut self, forms: &[Form]) -> Result<(), AllocError> {
+    fn define_choice(&mut self, forms: &[Form]) -> Result<(), OutOfMemory> {
         self.push(&["\"anyOf\":["])?;
         let mut front = "{";
         for form in forms {
@@ -170,7 +171,7 @@ impl Schema {
     }
 
     // A pair for each key.
-    fn define_pairs(&mut self, keys: Keys) -> Result<(), AllocError> {
+    fn define_pairs(&mut self, keys: Keys) -> Result<(), OutOfMemory> {
         self.push(&["\"anyOf\":["])?;
         for key in keys_of(keys) {
             if let Some(form) = form_of_key(keys, *key) {
@@ -184,7 +185,7 @@ impl Schema {
     }
 
     // The second item of a pair. A setting's may be null.
-    fn define_value(&mut self, keys: Keys, form: Form) -> Result<(), AllocError> {
+    fn define_value(&mut self, keys: Keys, form: Form) -> Result<(), OutOfMemory> {
         self.push(&["{\"anyOf\":[{"])?;
         self.refer(form)?;
         self.push(&[if keys == Keys::Settings {
@@ -194,7 +195,7 @@ impl Schema {
         }])
     }
 
-    fn define_object(&mut self, members: &[Member]) -> Result<(), AllocError> {
+    fn define_object(&mut self, members: &[Member]) -> Result<(), OutOfMemory> {
         let mut needed = Vec::new(self.alloc);
         let mut front = "\"type\":\"object\",\"properties\":{\"";
         for member in members {

@@ -2,7 +2,8 @@
 
 use crate::place::MAX_DEPTH;
 use json::{Reader, Scratch, Token, Value};
-use std::alloc::{AllocError, Global};
+use smithy_types::OutOfMemory;
+use std::alloc::Global;
 
 /// A place where a text isn't JSON.
 #[derive(Clone, Copy)]
@@ -25,7 +26,7 @@ struct Reading {
 }
 
 /// The first place where the text isn't JSON, where there is one.
-pub fn first_flaw(alloc: Global, text: &str) -> Result<Option<Flaw>, AllocError> {
+pub fn first_flaw(alloc: Global, text: &str) -> Result<Option<Flaw>, OutOfMemory> {
     let mut scratch = Scratch::new(alloc);
     let mut reader = Reader::new(text, &mut scratch)?;
     let mut reading = Reading {
@@ -50,7 +51,7 @@ pub fn first_flaw(alloc: Global, text: &str) -> Result<Option<Flaw>, AllocError>
 
 impl Reading {
     // Takes a token, and answers whether it may stand here.
-    fn take(&mut self, token: Token<'_>) -> Result<bool, AllocError> {
+    fn take(&mut self, token: Token<'_>) -> Result<bool, OutOfMemory> {
         match token {
             Token::Bad => Ok(false),
             Token::Key(_) => Ok(self.take_name()),
@@ -94,7 +95,7 @@ impl Reading {
         self.is_done = self.open.is_empty();
     }
 
-    fn begin(&mut self, is_object: bool) -> Result<bool, AllocError> {
+    fn begin(&mut self, is_object: bool) -> Result<bool, OutOfMemory> {
         let fits = self.wants_value() && self.open.len() < MAX_DEPTH;
         if fits {
             self.open.push(is_object)?;

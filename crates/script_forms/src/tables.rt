@@ -7,11 +7,11 @@ pub mod settings;
 pub mod values;
 
 use crate::form::Form;
-use crate::shape::{Shape, Table};
+use crate::shape::Table;
 
 /// The table of a form.
 pub fn table(form: Form) -> Table {
-    match values::table(form) {
+    match listed(values::TABLES, Form::Null, form) {
         Some(table) => table,
         None => above_values(form),
     }
@@ -19,7 +19,7 @@ pub fn table(form: Form) -> Table {
 
 // Of forms that aren't plain values.
 fn above_values(form: Form) -> Table {
-    match settings::table(form) {
+    match listed(settings::TABLES, Form::Timeouts, form) {
         Some(table) => table,
         None => above_settings(form),
     }
@@ -27,7 +27,7 @@ fn above_values(form: Form) -> Table {
 
 // Of forms that aren't settings either.
 fn above_settings(form: Form) -> Table {
-    match answers::table(form) {
+    match listed(answers::TABLES, Form::Absent, form) {
         Some(table) => table,
         None => above_answers(form),
     }
@@ -35,17 +35,22 @@ fn above_settings(form: Form) -> Table {
 
 // Of forms that aren't answers either.
 fn above_answers(form: Form) -> Table {
-    match clients::table(form) {
+    match listed(clients::TABLES, Form::Capacity, form) {
         Some(table) => table,
-        None => scripts::table(form),
+        None => above_clients(form),
     }
 }
 
-/// A table in short.
-pub fn made(name: &'static str, wanted: &'static str, shape: Shape) -> Option<Table> {
-    Some(Table {
-        name,
-        wanted,
-        shape,
-    })
+// Of forms that aren't clients or callers either.
+fn above_clients(form: Form) -> Table {
+    match listed(scripts::TABLES, Form::Span, form) {
+        Some(table) => table,
+        None => scripts::WAITERS_SCRIPT,
+    }
+}
+
+// The table of a form among those of the forms from this first one on.
+fn listed(tables: &[Table], first: Form, form: Form) -> Option<Table> {
+    let place = (form as usize).checked_sub(first as usize)?;
+    tables.get(place).copied()
 }

@@ -8,12 +8,12 @@ use crate::limits::within_limits;
 use crate::members::{known_member, known_members, last_places, none_missing, refuse_name};
 use crate::rules::rules_hold;
 use json::Value;
-use std::alloc::AllocError;
+use smithy_types::OutOfMemory;
 
 /// Whether the value is of the form. Where it isn't, the finder stands at the first place that is
 /// wrong, in the order of the text, with the reason.
 #[cycle(walk)]
-pub fn is_of_form(finder: &mut Finder, value: &Value, form: Form) -> Result<bool, AllocError> {
+pub fn is_of_form(finder: &mut Finder, value: &Value, form: Form) -> Result<bool, OutOfMemory> {
     let form = meant(value, form);
     if !head_fits(finder, value, form)? {
         return Ok(false);
@@ -30,7 +30,7 @@ pub fn is_of_form(finder: &mut Finder, value: &Value, form: Form) -> Result<bool
 }
 
 #[cycle(walk)]
-fn items_fit(finder: &mut Finder, items: &Vec<Value>, form: Form) -> Result<bool, AllocError> {
+fn items_fit(finder: &mut Finder, items: &Vec<Value>, form: Form) -> Result<bool, OutOfMemory> {
     let mut place = 0usize;
     for item in items {
         if let Some(wanted) = item_form(items, place, form) {
@@ -50,7 +50,7 @@ fn members_fit(
     finder: &mut Finder,
     members: &Vec<(&str, Value)>,
     form: Form,
-) -> Result<bool, AllocError> {
+) -> Result<bool, OutOfMemory> {
     let known = known_members(form);
     if known.is_empty() {
         return Ok(true);

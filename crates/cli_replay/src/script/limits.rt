@@ -210,7 +210,7 @@ pub fn answer_fits(answer: &Answer) -> bool
 fn has_key(keys: &[SettingKey], key: &SettingKey) -> bool
     ensures { result ≡ list_any (same_key key.now) keys.now }
 {
-    keys.iter().any(|other| key.same(other))
+    keys.iter().any(|other| *key == *other)
 }
 
 // Adds a key, where it isn't there.

@@ -1,15 +1,15 @@
 -- Which script of `waiters` a text is.
-use Rattle.std.specs.Prelude.{ℕ, ◌≡◌, ◌^◌, List, [], ◌∷◌, length, Bool, ◌&&◌, Option, Some, None, codes, nat_le, IsUtf8}
+use Rattle.std.specs.Prelude.{ℕ, ◌≡◌, List, [], ◌∷◌, length, Bool, ◌&&◌, Option, Some, None, codes, nat_le, IsUtf8}
 use Rattle.std.specs.Prelude.{if◌then◌else◌}
 use Rattle.std.specs.List.{list_all}
 use Rattle.serde_json.specs.Data.{Data}
 use Rattle.serde_json.specs.Find.{get, as_array}
 use Rattle.serde_json.specs.Read.{read}
 use Rattle.json_forms.specs.Lists.{list_of}
+use Rattle.json_scripts.specs.Buckets.{bucket_terms_at}
 use Rattle.json_scripts.specs.Members.{only_among}
-use Rattle.json_forms.specs.Plain.{number_at, number_below, sextuple_at}
+use Rattle.json_forms.specs.Plain.{number_at}
 use Rattle.json_forms.specs.Reading.{◌>>=◌}
-use Rattle.retry_quota.specs.declared.state.BucketTerms.{BucketTerms}
 use Rattle.cli_waiters.specs.declared.fleet.waiter.ScriptedWaiter.{ScriptedWaiter}
 use Rattle.json_scripts.specs.Words.{words_at}
 use Rattle.cli_wait.specs.Script.{polls_at}
@@ -17,19 +17,6 @@ use Rattle.waiter_fleet.specs.Plans.{is_good}
 use Rattle.waiter_fleet.specs.declared.plan.Plan.{Plan}
 use Rattle.cli_waiters.specs.Script.Members.{script_members, waiter_members}
 use Rattle.cli_waiters.specs.declared.script.terms.WaitersScript.{WaitersScript}
-
--- a capacity, the costs of a retry, of throttling and of a transient error, a reward and a rate
-unfoldable pub bucket_at : Data → Option BucketTerms
-bucket_at d = sextuple_at d >>= λ p. number_at p.0 >>= λ c. number_below (2 ^ 32) p.1 >>= λ r.
-    number_below (2 ^ 32) p.2 >>= λ h. number_below (2 ^ 32) p.3 >>= λ t. number_at p.4 >>= λ w. number_at p.5 >>= λ f.
-    Some (record {
-      capacity = c;
-      retry_cost = r;
-      throttling_retry_cost = h;
-      timeout_retry_cost = t;
-      success_reward = w;
-      refill_rate = f;
-    })
 
 -- the least and the greatest delay of a waiter, and its longest wait
 unfoldable pub plan_at : Data → Option Plan
@@ -60,7 +47,7 @@ good_of s = if are_good s.waiters then Some s else None
 
 -- the script that JSON spells: its members and no other, and each waiter can follow its plan
 unfoldable pub script_at : Data → Option WaitersScript
-script_at d = only_among script_members d >>= λ _. get (codes "bucket") d >>= bucket_at >>= λ b.
+script_at d = only_among script_members d >>= λ _. get (codes "bucket") d >>= bucket_terms_at >>= λ b.
     get (codes "start") d >>= number_at >>= λ m. get (codes "fuel") d >>= number_at >>= λ f.
     get (codes "words") d >>= words_at >>= λ ws. get (codes "waiters") d >>= waiters_at >>= λ w.
     good_of (record { bucket = b; start = m; fuel = f; words = ws; waiters = w })

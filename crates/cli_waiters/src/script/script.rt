@@ -3,17 +3,17 @@ ghost use Rattle.std.specs.Prelude.{◌≡◌, true, IfOk, IsErrOf};
 ghost use Rattle.json_forms.specs.View.{view, items_view};
 ghost use Rattle.json_forms.specs.Lists.{list_of};
 ghost use Rattle.json_forms.specs.Reading.{Reads};
-ghost use Rattle.cli_waiters.specs.Script.Script.{are_good, bucket_at, good_of, plan_at, script_at};
+ghost use Rattle.cli_waiters.specs.Script.Script.{are_good, good_of, plan_at, script_at};
 ghost use Rattle.cli_waiters.specs.Script.Script.{some_of, waiter_at, waiters_at, IsScript};
 
 use crate::fleet::ScriptedWaiter;
 use crate::script::members::{only_of_script, only_of_waiter};
 use crate::script::terms::WaitersScript;
 use cli_wait::read_polls;
-use json_forms::read::{items, member, number, number_32, sextuple};
+use json_forms::read::{items, member, number};
 use json_forms::{Arena, ReadError, Value};
+use json_scripts::buckets::read_bucket_terms;
 use json_scripts::read_words;
-use retry_quota::BucketTerms;
 use smithy_types::List;
 use std::alloc::Global;
 use waiter_fleet::Plan;
@@ -36,7 +36,7 @@ fn script_in(alloc: Global, value: &Value) -> Result<WaitersScript, ReadError>
     ensures good { IfOk result (λ s. are_good s.waiters ≡ true) }
 {
     only_of_script(value)?;
-    let bucket = read_bucket(member(value, "bucket")?)?;
+    let bucket = read_bucket_terms(member(value, "bucket")?)?;
     let start = number(member(value, "start")?)?;
     let fuel = number(member(value, "fuel")?)?;
     let words = read_words(alloc, member(value, "words")?)?;
@@ -67,28 +67,6 @@ fn are_good(waiters: &[ScriptedWaiter]) -> bool
     ensures { result ≡ are_good waiters.now }
 {
     waiters.iter().all(|waiter| waiter.plan.is_good())
-}
-
-// The terms of the bucket.
-#[tactic(auto, unfolding(crate::specs::Script::Script::bucket_at))]
-fn read_bucket(value: &Value) -> Result<BucketTerms, ReadError>
-    ensures { Reads result (bucket_at (view value.now)) }
-{
-    let (capacity, retry, throttling, transient, reward, rate) = sextuple(value)?;
-    let capacity = number(capacity)?;
-    let retry_cost = number_32(retry)?;
-    let throttling_retry_cost = number_32(throttling)?;
-    let timeout_retry_cost = number_32(transient)?;
-    let success_reward = number(reward)?;
-    let refill_rate = number(rate)?;
-    Ok(BucketTerms {
-        capacity,
-        retry_cost,
-        throttling_retry_cost,
-        timeout_retry_cost,
-        success_reward,
-        refill_rate,
-    })
 }
 
 #[tactic(auto, unfolding(crate::specs::Script::Script::waiters_at))]

@@ -14,10 +14,11 @@ use Rattle.smithy_types.specs.declared.payload.Payload.{Payload}
 use Rattle.smithy_types.specs.declared.identity.Identity.{Identity}
 use Rattle.client_auth.specs.Responses.{body_bytes}
 use Rattle.auth_endpoint.specs.declared.scheme.Signed.{Signed}
-use Rattle.auth_endpoint.specs.declared.scheme.Signed.TheVariants.{Request}
+use Rattle.client_builder.specs.declared.scheme.Scheme.{Scheme}
+use Rattle.client_builder.specs.declared.scheme.Scheme.TheVariants.{NoAuth, Brought}
 use Rattle.http_schemes.specs.Signing.{SignsByHeader, SignsByKey}
 use Rattle.client_scripted.specs.declared.service.scheme.ServiceScheme.{ServiceScheme}
-use Rattle.client_scripted.specs.declared.service.scheme.ServiceScheme.TheVariants.{NoAuth, Header, Bearer, ApiKey}
+use Rattle.client_scripted.specs.declared.service.scheme.ServiceScheme.TheVariants.{Header, Bearer, ApiKey}
 
 -- an input is posted to the service's root
 abbrev pub posted : Payload → HttpRequest
@@ -51,19 +52,17 @@ kind_of_error bytes =
 -- ---- signing
 
 -- the service's own scheme of an id: of `noAuth` the one that signs nothing
-abbrev pub scheme_of : List ℕ → ServiceScheme
-scheme_of id = if bytes_eq id (codes "noAuth") then NoAuth else Header id
+abbrev pub scheme_of : List ℕ → Scheme ServiceScheme
+scheme_of id = if bytes_eq id (codes "noAuth") then NoAuth (record {}) else Brought (Header id)
 
 -- the id of a scheme of the service
 abbrev pub id_of : ServiceScheme → List ℕ
-id_of NoAuth = codes "noAuth"
 id_of (Header id) = id
 id_of (Bearer scheme) = codes "http-bearer-auth"
 id_of (ApiKey scheme) = codes "http-api-key-auth"
 
--- the request as it is, with the header `authorization` of the bare data or of a bearer token, or with an API key
+-- the request with the header `authorization` of the bare data or of a bearer token, or with an API key
 abbrev pub Signs : ServiceScheme → HttpRequest → Identity → Signed → Type 0
-Signs NoAuth request identity signed = signed ≡ Request request
 Signs (Header id) request identity signed = SignsByHeader (codes "authorization") identity.content request signed
 Signs (Bearer scheme) request identity signed =
     SignsByHeader (codes "authorization") (codes "Bearer " ++ identity.content) request signed

@@ -2,17 +2,16 @@
 ghost use Rattle.std.specs.Prelude.{◌≡◌};
 ghost use Rattle.client_scripted.specs.Service.Service.{scheme_of};
 
-use auth_endpoint::{AuthScheme, NO_AUTH_SCHEME_ID, Signed};
+use auth_endpoint::{AuthScheme, NO_AUTH_SCHEME_ID, NoAuthScheme, Signed};
+use client_builder::Scheme;
 use http_schemes::header::sign_by_header;
 use http_schemes::{ApiKeyAuthScheme, BearerAuthScheme};
 use smithy_types::{Endpoint, HttpRequest, Identity, OutOfMemory, Text};
 use std::alloc::Global;
 
-/// A scheme of the service.
+/// A scheme of the service by which a request is signed.
 #[derive(Debug, Drop)]
 pub enum ServiceScheme {
-    /// Keeps a request as it is, under the id `noAuth`.
-    NoAuth,
     /// Sets the header `authorization` to the identity's content, under this id. The refusal is
     /// `BadHeader`: the content is no value of a header (RFC 9110, section 5.5), or the header is
     /// new and the request has no room for it.
@@ -23,17 +22,15 @@ pub enum ServiceScheme {
     ApiKey(ApiKeyAuthScheme),
 }
 
-impl ServiceScheme {
-    /// The service's own scheme of this id: of `noAuth` the one that signs nothing, and of any
-    /// other the one that sets the header, be it the id of a bearer token or of an API key.
-    pub fn of(id: Text) -> ServiceScheme
-        ensures { result ≡ scheme_of id }
-    {
-        if id.as_str() == NO_AUTH_SCHEME_ID {
-            ServiceScheme::NoAuth
-        } else {
-            ServiceScheme::Header(id)
-        }
+/// The service's own scheme of this id: of `noAuth` the one that signs nothing, and of any other the
+/// one that sets the header, be it the id of a bearer token or of an API key.
+pub fn own_scheme(id: Text) -> Scheme<ServiceScheme>
+    ensures { result ≡ scheme_of id }
+{
+    if id.as_str() == NO_AUTH_SCHEME_ID {
+        Scheme::NoAuth(NoAuthScheme::new())
+    } else {
+        Scheme::Brought(ServiceScheme::Header(id))
     }
 }
 
@@ -46,7 +43,6 @@ impl AuthScheme for ServiceScheme {
 
     fn id(&self) -> &str {
         match self {
-            ServiceScheme::NoAuth => NO_AUTH_SCHEME_ID,
             ServiceScheme::Header(id) => id.as_str(),
             ServiceScheme::Bearer(scheme) => scheme.id(),
             ServiceScheme::ApiKey(scheme) => scheme.id(),
@@ -61,7 +57,6 @@ impl AuthScheme for ServiceScheme {
         endpoint: &Endpoint,
     ) -> Result<Signed, OutOfMemory> {
         match self {
-            ServiceScheme::NoAuth => Ok(Signed::Request(request)),
             ServiceScheme::Header(_) => {
                 let value = identity.content.as_slice();
                 sign_by_header(alloc, request, b"authorization", value)

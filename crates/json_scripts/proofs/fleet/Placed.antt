@@ -10,12 +10,12 @@ use Rattle.json_forms.specs.Plain.{number_at, number_below}
 use Rattle.json_forms.specs.Reading.{◌>>=◌, Reads}
 use Rattle.json_forms.specs.declared.read.ReadError.{ReadError}
 use Rattle.json_values.specs.Readings.{payload_at}
-use Rattle.json_values.specs.SettingReadings.{timeouts_at, stall_at}
+use Rattle.json_values.specs.SettingForms.{timeouts_at, stall_at}
 use Rattle.json_values.proofs.SpelledForms.{Holds, held, step, past, mapped, weaker, number_within}
 use Rattle.json_scripts.specs.Records.Responses.{records_at}
 use Rattle.json_scripts.specs.Words.{words_at}
 use Rattle.json_scripts.specs.Client.Auth.{auth_at}
-use Rattle.json_scripts.specs.Client.Buckets.{bucket_terms_at}
+use Rattle.json_scripts.specs.Buckets.{bucket_terms_at}
 use Rattle.json_scripts.specs.Client.Clients.{flags_at, rules_at, target_at, client_members, client_at}
 use Rattle.json_scripts.specs.Stop.{stop_at}
 use Rattle.json_scripts.specs.Client.Invocations.{run_at}

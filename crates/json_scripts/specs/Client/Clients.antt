@@ -6,7 +6,7 @@ use Rattle.json_forms.specs.Forms.{optional_at}
 use Rattle.json_forms.specs.Lists.{list_of}
 use Rattle.json_forms.specs.Plain.{number_below}
 use Rattle.json_forms.specs.Reading.{◌>>=◌}
-use Rattle.json_values.specs.SettingReadings.{timeouts_at, stall_at}
+use Rattle.json_values.specs.SettingForms.{timeouts_at, stall_at}
 use Rattle.json_scripts.specs.Client.Auth.{auth_at}
 use Rattle.json_scripts.specs.Client.Members.{members_at}
 use Rattle.json_scripts.specs.Client.Retries.{retry_choice_at, classifiers_at}

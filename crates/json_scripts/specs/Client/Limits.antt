@@ -7,7 +7,7 @@ use Rattle.json_scripts.specs.declared.client.script.ClientScript.{ClientScript}
 use Rattle.json_scripts.specs.declared.client.terms.AuthChoice.{AuthChoice}
 use Rattle.json_scripts.specs.declared.client.terms.AuthChoice.TheVariants as auths
 use Rattle.json_scripts.specs.declared.client.terms.AuthSchemes.{AuthSchemes}
-use Rattle.json_scripts.specs.declared.client.terms.BucketTerms.{BucketTerms}
+use Rattle.retry_quota.specs.declared.state.BucketTerms.{BucketTerms}
 use Rattle.json_scripts.specs.declared.client.terms.ClientObject.{ClientObject}
 use Rattle.json_scripts.specs.declared.client.terms.HttpSchemeChoice.{HttpSchemeChoice}
 use Rattle.json_scripts.specs.declared.client.terms.HttpSchemeChoice.TheVariants.{Bearer, ApiKey}

@@ -6,7 +6,7 @@ use Rattle.json_forms.specs.Forms.{says, tagged_at}
 use Rattle.json_forms.specs.Lists.{list_of}
 use Rattle.json_forms.specs.Plain.{number_below}
 use Rattle.json_forms.specs.Reading.{◌>>=◌}
-use Rattle.json_values.specs.SettingReadings.{retry_at}
+use Rattle.json_values.specs.SettingForms.{retry_at}
 use Rattle.json_scripts.specs.declared.client.terms.ClassifierChoice.{ClassifierChoice}
 use Rattle.json_scripts.specs.declared.client.terms.ClassifierChoice.TheVariants as classifiers
 use Rattle.json_scripts.specs.declared.client.terms.RetryChoice.{RetryChoice}

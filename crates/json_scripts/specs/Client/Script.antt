@@ -6,7 +6,7 @@ use Rattle.serde_json.specs.Read.{read}
 use Rattle.json_forms.specs.Plain.{number_at}
 use Rattle.json_forms.specs.Reading.{◌>>=◌}
 use Rattle.json_scripts.specs.Words.{words_at}
-use Rattle.json_scripts.specs.Client.Buckets.{buckets_at}
+use Rattle.json_scripts.specs.Buckets.{buckets_at}
 use Rattle.json_scripts.specs.Client.Clients.{clients_at}
 use Rattle.json_scripts.specs.Client.Invocations.{invocations_at}
 use Rattle.json_scripts.specs.Client.Members.{members_at}

@@ -6,7 +6,7 @@ use Rattle.serde_json.specs.Read.{read}
 use Rattle.json_forms.specs.Plain.{number_at}
 use Rattle.json_forms.specs.Reading.{◌>>=◌}
 use Rattle.json_scripts.specs.Words.{words_at}
-use Rattle.json_scripts.specs.Client.Buckets.{bucket_terms_at}
+use Rattle.json_scripts.specs.Buckets.{bucket_terms_at}
 use Rattle.json_scripts.specs.Client.Members.{members_at}
 use Rattle.json_scripts.specs.Fleet.Callers.{callers_at}
 use Rattle.json_scripts.specs.declared.fleet.terms.FleetScript.{FleetScript}

@@ -4,7 +4,6 @@ use Rattle.std.specs.Prelude.{replicate}
 use Rattle.std.specs.Fmt.{decimal}
 use Rattle.json_scripts.specs.declared.client.script.ClientScript.{ClientScript}
 use Rattle.json_scripts.specs.declared.client.terms.AuthChoice.TheVariants as auths
-use Rattle.json_scripts.specs.declared.client.terms.BucketTerms.{BucketTerms}
 use Rattle.json_scripts.specs.declared.client.terms.ClassifierChoice.TheVariants as classifiers
 use Rattle.json_scripts.specs.declared.client.terms.ClientObject.{ClientObject}
 use Rattle.json_scripts.specs.declared.client.terms.ClientRules.{ClientRules}
@@ -13,6 +12,8 @@ use Rattle.json_scripts.specs.declared.client.terms.RetryChoice.TheVariants as r
 use Rattle.outside_scripted.specs.declared.records.Frame.{Frame}
 use Rattle.outside_scripted.specs.declared.records.RecordAnswer.TheVariants as answers
 use Rattle.outside_scripted.specs.declared.records.ResponseRecord.{ResponseRecord}
+use Rattle.retry_quota.specs.Book.{plain_terms}
+use Rattle.retry_quota.specs.declared.state.BucketTerms.{BucketTerms}
 use Rattle.smithy_types.specs.declared.config.ReconnectMode.TheVariants as reconnects
 use Rattle.smithy_types.specs.declared.config.RetryMode.TheVariants as modes
 use Rattle.smithy_types.specs.declared.kinds.StopPoint.TheVariants as stops
@@ -20,7 +21,7 @@ use Rattle.json_scripts.specs.Workload.Words.{word_behind}
 
 -- five hundred tokens, of which a retry takes five, and ten after a transient error
 abbrev pub made_bucket : BucketTerms
-made_bucket = record { capacity = 500; retry_cost = 5; throttling_cost = 5; transient_cost = 10; reward = 0; rate = 0 }
+made_bucket = plain_terms 500
 
 -- three attempts with whole backoffs from 1 s to 20 s, no deadline, and that bucket
 abbrev pub made_rules : ClientRules

@@ -4,7 +4,7 @@ ghost use Rattle.json_forms.specs.View.{view, items_view};
 ghost use Rattle.json_forms.specs.Forms.{optional_at};
 ghost use Rattle.json_forms.specs.Lists.{list_of};
 ghost use Rattle.json_forms.specs.Reading.{Reads};
-ghost use Rattle.json_values.specs.SettingReadings.{stall_at};
+ghost use Rattle.json_values.specs.SettingForms.{stall_at};
 ghost use Rattle.json_scripts.specs.Client.Clients.{flags_at, rules_at, text_member, target_at};
 ghost use Rattle.json_scripts.specs.Client.Clients.{client_members, client_at, clients_at};
 

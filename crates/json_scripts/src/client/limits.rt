@@ -7,13 +7,11 @@ ghost use Rattle.json_scripts.specs.Client.Limits.{fuel_of, client_script_fits};
 
 use crate::client::script::ClientScript;
 use crate::client::terms::{
-    AuthChoice, AuthSchemes, BucketTerms, ClientObject, HttpSchemeChoice, InvocationRecord,
+    AuthChoice, AuthSchemes, ClientObject, HttpSchemeChoice, InvocationRecord,
 };
 use crate::records::{records_fit, sources_fit};
 use crate::{FUEL_LIMIT, left_of, optional_text_fits, optional_texts_fit, text_fits, texts_fit};
-
-/// The most tokens of a bucket.
-const CAPACITY_LIMIT: u64 = 500_000_000;
+use retry_quota::{BucketTerms, MAXIMUM_CAPACITY};
 
 /// The most invocations of a script.
 const INVOCATION_LIMIT: usize = 10_000;
@@ -23,7 +21,7 @@ const INVOCATION_LIMIT: usize = 10_000;
 pub fn capacity_fits(terms: &BucketTerms) -> bool
     ensures { result ≡ capacity_fits terms.now }
 {
-    terms.capacity <= CAPACITY_LIMIT
+    terms.capacity <= MAXIMUM_CAPACITY
 }
 
 fn capacities_fit(buckets: &[BucketTerms]) -> bool

@@ -5,13 +5,14 @@ ghost use Rattle.json_forms.specs.Reading.{Reads};
 ghost use Rattle.json_scripts.specs.Client.Placed.{IsPlaced};
 ghost use Rattle.json_scripts.specs.Client.Script.{client_script_at, IsClientScript};
 
-use crate::client::buckets::read_buckets;
+use crate::buckets::read_buckets;
 use crate::client::client::read_clients;
 use crate::client::invocation::read_invocations;
 use crate::client::members::exact_members;
-use crate::client::terms::{BucketTerms, ClientObject, InvocationRecord};
+use crate::client::terms::{ClientObject, InvocationRecord};
 use crate::read_words;
 use json_forms::{Arena, ReadError, Value, read};
+use retry_quota::BucketTerms;
 use smithy_types::List;
 use std::alloc::Global;
 

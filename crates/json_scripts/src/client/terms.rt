@@ -9,23 +9,6 @@ use smithy_types::{
     List, Payload, RetryConfig, StalledStreamProtectionConfig, StopPoint, Text, TimeoutConfig,
 };
 
-/// The terms of a token bucket.
-#[derive(Clone, Copy, Debug)]
-pub struct BucketTerms {
-    /// How many tokens it begins with, and holds at most.
-    pub capacity: u64,
-    /// What a retry after a client's or a server's error costs.
-    pub retry_cost: u32,
-    /// What a retry after throttling costs.
-    pub throttling_cost: u32,
-    /// What a retry after a transient error costs.
-    pub transient_cost: u32,
-    /// What a success earns, in thousandths of a token.
-    pub reward: u64,
-    /// How much comes back in a second, in thousandths of a token.
-    pub rate: u64,
-}
-
 /// How a client retries.
 #[derive(Clone, Copy, Debug)]
 pub enum RetryChoice {

@@ -5,7 +5,7 @@ ghost use Rattle.json_forms.specs.Reading.{Reads};
 ghost use Rattle.json_scripts.specs.Fleet.Placed.{IsPlaced};
 ghost use Rattle.json_scripts.specs.Fleet.Script.{fleet_script_at, IsFleetScript};
 
-use crate::client::buckets::read_bucket_terms;
+use crate::buckets::read_bucket_terms;
 use crate::client::members::exact_members;
 use crate::fleet::callers::read_callers;
 use crate::fleet::terms::FleetScript;

@@ -1,6 +1,7 @@
 //! What a script says of callers that share one token bucket. Times are in nanoseconds.
 
-use crate::client::{BucketTerms, ClientObject, InvocationRecord};
+use crate::client::{ClientObject, InvocationRecord};
+use retry_quota::BucketTerms;
 use smithy_types::List;
 
 /// A caller: a client of its own, and what is invoked through it.

@@ -2,11 +2,12 @@
 ghost use Rattle.std.specs.Prelude.{◌≡◌, ◌≤◌, true, IfOk};
 ghost use Rattle.json_scripts.specs.Client.Limits.{client_script_fits};
 ghost use Rattle.json_scripts.specs.Client.Placed.{IsPlaced};
-ghost use Rattle.json_scripts.specs.Workload.Made.{made_bucket, made_script};
+ghost use Rattle.json_scripts.specs.Workload.Made.{made_script};
 
-use crate::client::{BucketTerms, ClientScript};
+use crate::client::ClientScript;
 use crate::workload::client::made_client;
 use crate::workload::invocations::made_invocations;
+use retry_quota::BucketTerms;
 use smithy_types::{List, OutOfMemory};
 use std::alloc::Global;
 
@@ -27,7 +28,7 @@ fn whole_script(alloc: Global, count: u64, seed: u64) -> Result<ClientScript, Ou
     ensures { IfOk result (λ s. s ≡ made_script count seed) }
 {
     let mut buckets = List::new();
-    buckets.push(alloc, made_bucket())?;
+    buckets.push(alloc, BucketTerms::default())?;
     let mut clients = List::new();
     clients.push(alloc, made_client(alloc)?)?;
     Ok(ClientScript {
@@ -37,18 +38,4 @@ fn whole_script(alloc: Global, count: u64, seed: u64) -> Result<ClientScript, Ou
         clients,
         invocations: made_invocations(alloc, count, seed)?,
     })
-}
-
-// The bucket that pays for the client's retries.
-fn made_bucket() -> BucketTerms
-    ensures { result ≡ made_bucket }
-{
-    BucketTerms {
-        capacity: 500,
-        retry_cost: 5,
-        throttling_cost: 5,
-        transient_cost: 10,
-        reward: 0,
-        rate: 0,
-    }
 }

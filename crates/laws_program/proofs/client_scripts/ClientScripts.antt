@@ -6,7 +6,7 @@ use Rattle.json_forms.specs.Plain.{number_at, number_below}
 use Rattle.json_forms.specs.Reading.{◌>>=◌}
 use Rattle.json_values.proofs.SpelledForms.{Holds, step, weaker}
 use Rattle.json_scripts.specs.Words.{words_at}
-use Rattle.json_scripts.specs.Client.Buckets.{buckets_at}
+use Rattle.json_scripts.specs.Buckets.{buckets_at}
 use Rattle.json_scripts.specs.Client.Clients.{clients_at}
 use Rattle.json_scripts.specs.Client.Invocations.{invocation_at, invocations_at, run_at}
 use Rattle.json_scripts.specs.Client.Members.{members_at}

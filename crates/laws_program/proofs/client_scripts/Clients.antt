@@ -9,12 +9,12 @@ use Rattle.json_forms.specs.Lists.{list_of}
 use Rattle.json_forms.specs.Plain.{number_at, number_below, quadruple_at, quintuple_at, sextuple_at}
 use Rattle.json_forms.specs.Reading.{◌>>=◌}
 use Rattle.json_values.specs.Readings.{payload_at}
-use Rattle.json_values.specs.SettingReadings.{retry_at, stall_at, timeouts_at}
+use Rattle.json_values.specs.SettingForms.{retry_at, stall_at, timeouts_at}
 use Rattle.json_values.proofs.SpelledForms.{Holds, either_by, past, step, step_at, weaker}
 use Rattle.json_scripts.specs.Records.Identities.{sources_at}
 use Rattle.json_scripts.specs.Records.Responses.{records_at}
 use Rattle.json_scripts.specs.Client.Auth.{auth_at, auth_schemes_at, cache_at, lazy_at, unsigned}
-use Rattle.json_scripts.specs.Client.Buckets.{bucket_terms_at, buckets_at}
+use Rattle.json_scripts.specs.Buckets.{bucket_terms_at, buckets_at}
 use Rattle.json_scripts.specs.Client.Clients.{client_at, client_members, clients_at, flags_at, rules_at, target_at, text_member}
 use Rattle.json_scripts.specs.Stop.{stop_at}
 use Rattle.json_scripts.specs.Client.Invocations.{run_at}

@@ -7,7 +7,7 @@ use Rattle.json_forms.specs.Plain.{number_at}
 use Rattle.json_forms.specs.Reading.{◌>>=◌}
 use Rattle.json_values.proofs.SpelledForms.{Holds, step, weaker}
 use Rattle.json_scripts.specs.Words.{words_at}
-use Rattle.json_scripts.specs.Client.Buckets.{bucket_terms_at}
+use Rattle.json_scripts.specs.Buckets.{bucket_terms_at}
 use Rattle.json_scripts.specs.Client.Clients.{client_at}
 use Rattle.json_scripts.specs.Client.Invocations.{run_at}
 use Rattle.json_scripts.specs.Client.Members.{members_at}

@@ -4,7 +4,7 @@ use Rattle.std.specs.Map.{lookup}
 use Rattle.client_auth.specs.Identities.{cached_by}
 use Rattle.cli_client.specs.Opening.{IsOpened}
 use Rattle.cli_client_runs.specs.declared.set.ClientSet.{ClientSet}
-use Rattle.json_scripts.specs.declared.client.terms.BucketTerms.{BucketTerms}
+use Rattle.retry_quota.specs.declared.state.BucketTerms.{BucketTerms}
 use Rattle.json_scripts.specs.declared.client.terms.ClientObject.{ClientObject}
 use Rattle.client_scripted.specs.declared.service.error.ServiceError.{ServiceError}
 use Rattle.identity_cell.specs.declared.identity_cache.SharedIdentityCache.{SharedIdentityCache}

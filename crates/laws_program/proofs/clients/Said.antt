@@ -1,13 +1,13 @@
 -- What `client` and `make` say is determined.
-use Rattle.std.proofs.Common.{◌≡◌, ◌∙◌, refl, sym, ap, subst, ℕ, arith, true, false, List, []}
-use Rattle.cli_client.specs.Client.{IsToldOf, client_says}
+use Rattle.std.proofs.Common.{◌≡◌, ◌∙◌, refl, sym, ap, ℕ, arith, List, []}
+use Rattle.cli_client.specs.Client.{IsToldOf, client_means, client_says}
 use Rattle.cli_client.specs.Means.{SlotRuns, own_chain, own_ranked, own_says}
 use Rattle.cli_client.specs.declared.report.Report.{Report}
 use Rattle.cli_client.specs.declared.report.Report.TheVariants as reports
-use Rattle.json_scripts.specs.Client.Limits.{client_script_fits}
 use Rattle.json_scripts.specs.Client.Script.{IsClientScript}
 use Rattle.json_scripts.specs.declared.client.script.ClientScript.{ClientScript}
 use Rattle.laws_determined.specs.Retries.Kinds.{RunsAlike}
+use Rattle.cli_shell.proofs.Saying.{bytes-say-once}
 use Rattle.cli_shell.specs.Determined.{IsFunctional}
 use Rattle.cli_shell.specs.Said.{prints, refuses}
 use Rattle.cli_shell.specs.declared.status.PrintStatus.{PrintStatus}
@@ -39,33 +39,16 @@ told_once (reports.Counts count seed) script text other outcome status s t =
 same_prints : (outcome status : PrintStatus) (text other : List ℕ) → OneTelling text other outcome status → prints outcome text ≡ prints status other
 same_prints outcome status text other one = λ i. prints (one.outcome_is i) (one.text_is i)
 
-one_said : (s r : ClientScript) (outcome status : PrintStatus) (text other : List ℕ) → s ≡ r → IsToldOf reports.Print s text outcome → IsToldOf reports.Print r other status → prints outcome text ≡ prints status other
-one_said s r outcome status text other is one two =
-    same_prints outcome status text other (told_once reports.Print s text other outcome status one (subst (λ x. IsToldOf reports.Print x other status) (sym is) two))
+one_said : (s : ClientScript) (outcome status : PrintStatus) (text other : List ℕ) → IsToldOf reports.Print s text outcome → IsToldOf reports.Print s other status → prints outcome text ≡ prints status other
+one_said s outcome status text other one two = same_prints outcome status text other (told_once reports.Print s text other outcome status one two)
 
 -- ---- one thing is said of bytes
 
 one_script : (bytes : List ℕ) (s r : ClientScript) → IsClientScript bytes s → IsClientScript bytes r → s ≡ r
 one_script bytes s r one two = same_some s r (sym one.1 ∙ two.1)
 
--- a script within its limits passes none
-within_passes : (s r : ClientScript) → s ≡ r → client_script_fits s ≡ true → client_script_fits r ≡ false → ⊥
-within_passes s r is within passes = let clash = sym within ∙ (ap client_script_fits is ∙ passes) in cc clash
-
 pub client_once : IsFunctional client_says
-client_once bytes (prints a t) (prints b u) (s, i, (w, h)) (r, j, (v, k)) = one_said s r a b t u (one_script bytes s r i j) h k
-client_once bytes (prints a t) (refuses refusals.TooLarge) (s, i, (w, h)) (r, j, v) = absurd (within_passes s r (one_script bytes s r i j) w v)
-client_once bytes (prints a t) (refuses refusals.BadScript) (s, i, h) f = absurd (f s i)
-client_once bytes (prints a t) (refuses refusals.NotBuilt) h k = absurd k
-client_once bytes (refuses refusals.TooLarge) (prints b u) (r, j, v) (s, i, (w, h)) = absurd (within_passes s r (one_script bytes s r i j) w v)
-client_once bytes (refuses refusals.TooLarge) (refuses refusals.TooLarge) h k = refl
-client_once bytes (refuses refusals.TooLarge) (refuses refusals.BadScript) (s, i, v) f = absurd (f s i)
-client_once bytes (refuses refusals.TooLarge) (refuses refusals.NotBuilt) h k = absurd k
-client_once bytes (refuses refusals.BadScript) (prints b u) f (s, i, h) = absurd (f s i)
-client_once bytes (refuses refusals.BadScript) (refuses refusals.TooLarge) f (s, i, v) = absurd (f s i)
-client_once bytes (refuses refusals.BadScript) (refuses refusals.BadScript) h k = refl
-client_once bytes (refuses refusals.BadScript) (refuses refusals.NotBuilt) h k = absurd k
-client_once bytes (refuses refusals.NotBuilt) x h k = absurd h
+client_once = bytes-say-once client_means one_script one_said
 
 pub make_once : MakesOneThing
 make_once count seed (prints a t) (prints b u) (w, h) (v, k) = same_prints a b t u (told_once (reports.Counts count seed) (made_script count seed) t u a b h k)

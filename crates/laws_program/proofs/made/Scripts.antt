@@ -8,11 +8,11 @@ use Rattle.json_forms.specs.Forms.{optional_at, tagged_at, word_at, says}
 use Rattle.json_forms.specs.Lists.{list_of}
 use Rattle.json_forms.specs.Prints.{row, is_shown}
 use Rattle.json_forms.specs.Reading.{◌>>=◌}
-use Rattle.json_values.specs.SettingReadings.{mode_at, reconnect_at, retry_at, spec_at, stall_at, timeouts_at}
-use Rattle.json_values.specs.Values.{retry_data, timeouts_data}
+use Rattle.json_values.specs.SettingForms.{mode_at, reconnect_at, retry_at, spec_at, stall_at, timeouts_at}
+use Rattle.json_values.specs.SettingForms.{retry_data, timeouts_data}
 use Rattle.json_scripts.specs.Words.{words_at}
 use Rattle.json_scripts.specs.Client.Auth.{auth_at}
-use Rattle.json_scripts.specs.Client.Buckets.{bucket_terms_at, buckets_at}
+use Rattle.json_scripts.specs.Buckets.{bucket_terms_at, buckets_at}
 use Rattle.json_scripts.specs.Client.Clients.{client_at, clients_at, flags_at, rules_at, target_at, text_member}
 use Rattle.json_scripts.specs.Client.Invocations.{invocations_at}
 use Rattle.json_scripts.specs.Client.Members.{members_at}

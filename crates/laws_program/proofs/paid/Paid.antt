@@ -18,18 +18,17 @@ use Rattle.json_scripts.specs.declared.client.terms.InvocationRecord.{Invocation
 use Rattle.client_scripted.specs.declared.service.error.ServiceError.{ServiceError}
 use Rattle.client_components.proofs.PaidLemmas.{all_later, all_paid, kept_prices}
 use Rattle.client_components.proofs.QuotaLemmas.{all_keep}
-use Rattle.client_scripted.specs.Buckets.{book_of}
 use Rattle.client_scripted.specs.Clients.{BuildsOne, Described}
 use Rattle.client_scripted.specs.Parts.{PartitionOf}
 use Rattle.cli_client.specs.Opening.{quota_of}
 use Rattle.rate_limit.specs.Pace.{Pace}
 use Rattle.retry_quota.proofs.CallLemmas.{keeps_then}
-use Rattle.retry_quota.specs.Book.{cost_of}
+use Rattle.retry_quota.specs.Book.{book_of, cost_of}
 use Rattle.retry_quota.specs.Calls.{KeepsThere}
 use Rattle.retry_quota.specs.Registers.{Registers, meaning_of}
 use Rattle.smithy_types.specs.declared.kinds.ErrorKind.{ErrorKind}
 use Rattle.smithy_types.specs.declared.partition.RetryPartition.{RetryPartition}
-use Rattle.json_scripts.specs.declared.client.terms.BucketTerms.{BucketTerms}
+use Rattle.retry_quota.specs.declared.state.BucketTerms.{BucketTerms}
 use Rattle.json_print.proofs.determined.Endings.{run_of}
 use Rattle.client_builder.specs.declared.own_interceptor.OwnInterceptor.{OwnInterceptor}
 use Rattle.orchestrate.specs.SpelledRuns.{IsRunWithin}

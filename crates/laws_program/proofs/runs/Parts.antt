@@ -83,7 +83,6 @@ key_alike Header name prefix key request a b s t = header_alike name (prefixed p
 key_alike Query name prefix key request a b s t = query_alike name key request a b s t
 
 service_alike : (scheme : ServiceScheme) (request : HttpRequest) (identity : Identity) (a b : Signed) → Signs scheme request identity a → Signs scheme request identity b → a ≡ b
-service_alike services.NoAuth request identity a b s t = s ∙ sym t
 service_alike (services.Header id) request identity a b s t = header_alike (codes "authorization") identity.content request a b s t
 service_alike (services.Bearer scheme) request identity a b s t = header_alike (codes "authorization") (codes "Bearer " ++ identity.content) request a b s t
 service_alike (services.ApiKey scheme) request identity a b s t = key_alike scheme.location scheme.name scheme.prefix identity.content request a b s t

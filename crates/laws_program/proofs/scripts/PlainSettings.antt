@@ -8,7 +8,8 @@ use Rattle.json_forms.specs.Forms.{optional_at, true_at, texts_at, blob_at}
 use Rattle.json_forms.specs.Lists.{list_of, named_once}
 use Rattle.json_forms.specs.Plain.{number_at, number_below, pair_at, triple_at, quadruple_at, septuple_at}
 use Rattle.json_forms.specs.Reading.{◌>>=◌}
-use Rattle.json_values.specs.SettingReadings.{timeouts_at, version_at, spec_at, mode_at, reconnect_at, retry_at, stall_at, marked, setting_at, key_of_text, layer_entry_at, layer_at}
+use Rattle.json_values.specs.SettingReadings.{key_of_text, layer_entry_at, layer_at}
+use Rattle.json_values.specs.SettingForms.{timeouts_at, version_at, spec_at, mode_at, reconnect_at, retry_at, stall_at, marked, setting_at}
 use Rattle.json_values.proofs.SpelledForms.{Holds, past, step, weaker}
 use Rattle.laws_program.proofs.scripts.PlainForms.{Plain, ArePlain, Refuses, kept, then_plain, part, str_plain, bool_plain, true_plain, number_plain, below_plain, array_plain, list_plain, texts_plain, pair_plain, triple_plain, quadruple_plain, septuple_plain, optional_plain, blob_plain}
 
@@ -80,15 +81,11 @@ setting_plain keys.Partition d = kept (Plain d) (as_str d) _ (str_plain d)
 setting_plain keys.Bucket d = kept (Plain d) (number_below (2 ^ 32) d) _ (below_plain (2 ^ 32) d)
 setting_plain keys.Prefix d = kept (Plain d) (as_str d) _ (str_plain d)
 setting_plain keys.Preference d = kept (Plain d) (texts_at d) _ (texts_plain d)
-setting_plain keys.V2 d = marked_plain _ d
-setting_plain keys.EndpointParams d = marked_plain _ d
-setting_plain keys.AuthParams d = marked_plain _ d
-setting_plain keys.EnforceLength d = marked_plain _ d
 setting_plain keys.Disable d = kept (Plain d) (texts_at d) _ (texts_plain d)
 setting_plain keys.Capture d = kept (Plain d) (number_at d) _ (number_plain d)
 setting_plain keys.Poisoned d = kept (Plain d) (number_at d) _ (number_plain d)
-setting_plain keys.Upload d = marked_plain _ d
 setting_plain (keys.User n) d = kept (Plain d) (blob_at d) _ (blob_plain d)
+setting_plain _ d = marked_plain _ d
 
 -- ---- layers
 

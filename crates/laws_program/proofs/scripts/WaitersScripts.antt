@@ -1,33 +1,24 @@
 -- A script of `waiters` has no float.
-use Rattle.std.proofs.Common.{◌≡◌, ◌^◌, codes, true}
+use Rattle.std.proofs.Common.{◌≡◌, codes, true}
 use Rattle.serde_json.specs.Data.{Data, object, Members}
 use Rattle.serde_json.specs.Find.{as_array, get_member}
 use Rattle.json_forms.specs.Lists.{list_of}
-use Rattle.json_forms.specs.Plain.{number_at, number_below, sextuple_at}
+use Rattle.json_forms.specs.Plain.{number_at}
 use Rattle.json_forms.specs.Reading.{◌>>=◌}
 use Rattle.json_values.proofs.SpelledForms.{Holds, step}
+use Rattle.json_scripts.specs.Buckets.{bucket_terms_at}
 use Rattle.json_scripts.specs.Words.{words_at}
 use Rattle.cli_wait.specs.Script.{polls_at}
 use Rattle.cli_waiters.specs.Script.Members.{script_members, waiter_members}
-use Rattle.cli_waiters.specs.Script.Script.{bucket_at, plan_at, script_at, some_of, waiter_at, waiters_at}
+use Rattle.cli_waiters.specs.Script.Script.{plan_at, script_at, some_of, waiter_at, waiters_at}
 use Rattle.laws_program.specs.Scripts.Floats.{FloatsSpellNothing}
+use Rattle.laws_program.proofs.client_scripts.Clients.{bucket_plain}
 use Rattle.laws_program.proofs.scripts.Ordered.{is_ordered, ordered_when_read}
-use Rattle.laws_program.proofs.scripts.PlainForms.{Plain, Refuses, always, below_plain, kept, number_plain, part, sextuple_plain}
+use Rattle.laws_program.proofs.scripts.PlainForms.{Plain, always, kept, number_plain}
 use Rattle.laws_program.proofs.scripts.PlainMembers.{IsPlainAt, RefusesOrdered, by_members, by_names, member_plain, ordered_member_plain, ordered_rows_plain, spells_nothing}
 use Rattle.laws_program.proofs.scripts.WaitScripts.{polls_plain, words_plain}
 
 -- ---- a waiter
-
-bucket_plain : Refuses bucket_at
-unfolding bucket_at Holds
-bucket_plain d =
-    step _ _ (sextuple_at d) _ (sextuple_plain d) (λ p whole.
-    part number_at number_plain p.0 _ _ (λ h c.
-    part (number_below (2 ^ 32)) (below_plain (2 ^ 32)) p.1 _ _ (λ i r.
-    part (number_below (2 ^ 32)) (below_plain (2 ^ 32)) p.2 _ _ (λ j t.
-    part (number_below (2 ^ 32)) (below_plain (2 ^ 32)) p.3 _ _ (λ k u.
-    part number_at number_plain p.4 _ _ (λ l w.
-    part number_at number_plain p.5 _ _ (λ m f. whole h i j k l m)))))))
 
 plan_plain : (ms : Members) → Holds (λ _. IsPlainAt (codes "min") ms × IsPlainAt (codes "max") ms × IsPlainAt (codes "max_wait") ms) (plan_at (object ms))
 unfolding plan_at Holds
@@ -54,7 +45,7 @@ waiters_plain d h = kept (Plain d) (as_array d >>= list_of waiter_at) some_of (o
 script_plain : (d : Data) → is_ordered d ≡ true → Holds (λ _. Plain d) (script_at d)
 unfolding script_at script_members Holds
 script_plain = by_members script_members _ (λ ms h among.
-    step _ _ (get_member (codes "bucket") ms >>= bucket_at) _ (member_plain bucket_at bucket_plain (codes "bucket") ms) (λ _ b.
+    step _ _ (get_member (codes "bucket") ms >>= bucket_terms_at) _ (member_plain bucket_terms_at bucket_plain (codes "bucket") ms) (λ _ b.
     step _ _ (get_member (codes "start") ms >>= number_at) _ (member_plain number_at number_plain (codes "start") ms) (λ _ m.
     step _ _ (get_member (codes "fuel") ms >>= number_at) _ (member_plain number_at number_plain (codes "fuel") ms) (λ _ f.
     step _ _ (get_member (codes "words") ms >>= words_at) _ (member_plain words_at words_plain (codes "words") ms) (λ _ ws.

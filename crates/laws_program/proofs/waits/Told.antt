@@ -1,16 +1,16 @@
 -- What `wait` says is determined by its input.
-use Rattle.std.proofs.Common.{◌≡◌, ℕ, true, false, List, [], None, Some, ap, sym, subst, refl, ◌∙◌}
+use Rattle.std.proofs.Common.{◌≡◌, ℕ, false, List, [], Some, ap, sym, subst, ◌∙◌}
+use Rattle.cli_shell.proofs.Saying.{bytes-say-once}
 use Rattle.cli_shell.specs.Determined.{IsFunctional}
-use Rattle.cli_shell.specs.Said.{prints, refuses}
+use Rattle.cli_shell.specs.Said.{prints}
 use Rattle.cli_shell.specs.declared.status.PrintStatus.{PrintStatus}
-use Rattle.cli_shell.specs.declared.status.Refusal.TheVariants as refusals
 use Rattle.cli_wait.specs.declared.ending.WaitEnding.{WaitEnding}
 use Rattle.cli_wait.specs.declared.script.WaitScript.{WaitScript}
 use Rattle.cli_wait.specs.declared.scripted_timers.ScriptedTimers.{ScriptedTimers}
 use Rattle.cli_wait.specs.Endings.{came_to}
 use Rattle.cli_wait.specs.Print.{wait_text}
-use Rattle.cli_wait.specs.Script.{IsScript, is_within}
-use Rattle.cli_wait.specs.Wait.{AreFirst, IsWait, wait_says}
+use Rattle.cli_wait.specs.Script.{IsScript}
+use Rattle.cli_wait.specs.Wait.{AreFirst, IsWait, wait_means, wait_says}
 use Rattle.cli_wait.specs.Walk.{EndsBy}
 use Rattle.laws_program.proofs.waits.Turned.{Goes, asking, one_way}
 use Rattle.laws_program.proofs.waits.Walked.{waits_go}
@@ -57,27 +57,11 @@ one_print s text other status too one two =
       status_is = one.status_is ∙ (ap came_to met.ending_is ∙ sym two.status_is);
     }
 
-one_said : (s r : WaitScript) (a b : PrintStatus) (t u : List ℕ) → s ≡ r → IsWait s t a → IsWait r u b → prints a t ≡ prints b u
-one_said s r a b t u is one two =
-    let same = one_print s t u a b one (subst (λ x. IsWait x u b) (sym is) two) in
+one_said : (s : WaitScript) (a b : PrintStatus) (t u : List ℕ) → IsWait s t a → IsWait s u b → prints a t ≡ prints b u
+one_said s a b t u one two =
+    let same = one_print s t u a b one two in
     λ i. prints (same.status_is i) (same.text_is i)
-
--- a script within its limits passes none
-within_passes : (s r : WaitScript) → s ≡ r → is_within s ≡ true → is_within r ≡ false → ⊥
-within_passes s r is within passes = let clash = sym within ∙ (ap is_within is ∙ passes) in cc clash
 
 -- of one text `wait` says one thing
 pub wait_once : IsFunctional wait_says
-wait_once bytes (prints a t) (prints b u) (s, i, (w, h)) (r, j, (v, k)) = one_said s r a b t u (one_script bytes s r i j) h k
-wait_once bytes (prints a t) (refuses refusals.TooLarge) (s, i, (w, h)) (r, j, v) = absurd (within_passes s r (one_script bytes s r i j) w v)
-wait_once bytes (prints a t) (refuses refusals.BadScript) (s, i, h) f = absurd (f s i)
-wait_once bytes (prints a t) (refuses refusals.NotBuilt) h k = absurd k
-wait_once bytes (refuses refusals.TooLarge) (prints b u) (r, j, v) (s, i, (w, h)) = absurd (within_passes s r (one_script bytes s r i j) w v)
-wait_once bytes (refuses refusals.TooLarge) (refuses refusals.TooLarge) h k = refl
-wait_once bytes (refuses refusals.TooLarge) (refuses refusals.BadScript) (s, i, v) f = absurd (f s i)
-wait_once bytes (refuses refusals.TooLarge) (refuses refusals.NotBuilt) h k = absurd k
-wait_once bytes (refuses refusals.BadScript) (prints b u) f (s, i, h) = absurd (f s i)
-wait_once bytes (refuses refusals.BadScript) (refuses refusals.TooLarge) f (s, i, v) = absurd (f s i)
-wait_once bytes (refuses refusals.BadScript) (refuses refusals.BadScript) h k = refl
-wait_once bytes (refuses refusals.BadScript) (refuses refusals.NotBuilt) h k = absurd k
-wait_once bytes (refuses refusals.NotBuilt) x h k = absurd h
+wait_once = bytes-say-once wait_means one_script one_said

@@ -9,9 +9,10 @@ use Rattle.outside_scripted.specs.declared.records.RecordAnswer.TheVariants as g
 use Rattle.outside_scripted.specs.declared.records.ResponseRecord.{ResponseRecord}
 use Rattle.json_forms.specs.Prints.{row, num, null_or, blob_data}
 use Rattle.json_values.specs.Names.{stop_text}
-use Rattle.json_values.specs.Values.{payload_data, headers_data, connector_data, timeouts_data, retry_data, stall_data}
+use Rattle.json_values.specs.Values.{payload_data, headers_data, connector_data}
+use Rattle.json_values.specs.SettingForms.{timeouts_data, retry_data, stall_data}
 use Rattle.json_scripts.specs.declared.client.script.ClientScript.{ClientScript}
-use Rattle.json_scripts.specs.declared.client.terms.BucketTerms.{BucketTerms}
+use Rattle.retry_quota.specs.declared.state.BucketTerms.{BucketTerms}
 use Rattle.json_scripts.specs.declared.client.terms.ClassifierChoice.{ClassifierChoice}
 use Rattle.json_scripts.specs.declared.client.terms.ClassifierChoice.TheVariants as classifiers
 use Rattle.json_scripts.specs.declared.client.terms.ClientObject.{ClientObject}
@@ -25,7 +26,8 @@ use Rattle.json_scripts.specs.Workload.Made.{made_script}
 -- a capacity, the costs of a retry, of throttling and of a transient error, a reward and a rate
 unfoldable pub bucket_data : BucketTerms → Data
 bucket_data b = row (
-    num b.capacity ∷ num b.retry_cost ∷ num b.throttling_cost ∷ num b.transient_cost ∷ num b.reward ∷ num b.rate ∷ [])
+    num b.capacity ∷ num b.retry_cost ∷ num b.throttling_retry_cost ∷ num b.timeout_retry_cost ∷ num b.success_reward
+    ∷ num b.refill_rate ∷ [])
 
 -- never, or what the standard strategy goes by
 abbrev pub retry_choice_data : RetryChoice → Data

@@ -5,11 +5,10 @@ use Rattle.cli_client.specs.Client.{IsClientRun}
 use Rattle.laws_client.specs.Retries.Attempting.{BeginsAtMostAllowed}
 use Rattle.cli_client_runs.specs.Print.{buckets_text}
 use Rattle.cli_client_runs.specs.Running.{Ran, invocations_text}
-use Rattle.client_scripted.specs.Buckets.{book_of}
 use Rattle.json_scripts.specs.declared.client.script.ClientScript.{ClientScript}
 use Rattle.client_components.specs.Paying.{Pays, Prices, prices_of}
 use Rattle.rate_limit.specs.Pace.{Pace}
-use Rattle.retry_quota.specs.Book.{cost_of}
+use Rattle.retry_quota.specs.Book.{book_of, cost_of}
 use Rattle.retry_quota.specs.Registers.{Registers, meaning_of}
 use Rattle.run_grammar.specs.Laws.{IsWhole}
 use Rattle.run_grammar.specs.Standing.{start}

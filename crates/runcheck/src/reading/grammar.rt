@@ -11,8 +11,8 @@ ghost use Rattle.runcheck.specs.Reading.Productions.{production_of};
 
 use crate::reading::production::Production;
 use run_grammar::{ConfigureStage, Kind, Role, StopPoint, Test};
-use smithy_types::Hook;
-use std::alloc::{AllocError, Global};
+use smithy_types::{Hook, OutOfMemory};
+use std::alloc::Global;
 
 fn hook(point: Hook) -> Production
     ensures { production_of result ≡ hook point }
@@ -26,7 +26,7 @@ fn work(kind: Kind) -> Production
     Production::Work(kind)
 }
 
-fn then(alloc: Global, first: Production, second: Production) -> Result<Production, AllocError>
+fn then(alloc: Global, first: Production, second: Production) -> Result<Production, OutOfMemory>
     ensures { IfOk result (λ p. production_of p ≡ (production_of first ⨟ production_of second)) }
 {
     Ok(Production::Then(Box::new(alloc, first)?, Box::new(alloc, second)?))
@@ -37,7 +37,7 @@ fn either(
     test: Test,
     holds: Production,
     fails: Production,
-) -> Result<Production, AllocError>
+) -> Result<Production, OutOfMemory>
     ensures { IfOk result (λ p. production_of p ≡
         Where test (production_of holds) (production_of fails)) }
 {
@@ -45,7 +45,7 @@ fn either(
 }
 
 // The production where the test holds.
-fn only(alloc: Global, test: Test, holds: Production) -> Result<Production, AllocError>
+fn only(alloc: Global, test: Test, holds: Production) -> Result<Production, OutOfMemory>
     ensures { IfOk result (λ p. production_of p ≡ Where test (production_of holds) Nothing) }
 {
     let found = either(alloc, test, holds, Production::Nothing)?;
@@ -53,7 +53,7 @@ fn only(alloc: Global, test: Test, holds: Production) -> Result<Production, Allo
 }
 
 // The production where the last entry doesn't fail.
-fn unless_failed(alloc: Global, rest: Production) -> Result<Production, AllocError>
+fn unless_failed(alloc: Global, rest: Production) -> Result<Production, OutOfMemory>
     ensures { IfOk result (λ p. production_of p ≡ Where tests.Failed Nothing (production_of rest)) }
 {
     let found = either(alloc, Test::Failed, Production::Nothing, rest)?;
@@ -61,7 +61,7 @@ fn unless_failed(alloc: Global, rest: Production) -> Result<Production, AllocErr
 }
 
 // A step of a halted word, and the rest of it.
-fn halted(alloc: Global, step: Production, rest: Production) -> Result<Production, AllocError>
+fn halted(alloc: Global, step: Production, rest: Production) -> Result<Production, OutOfMemory>
     ensures { IfOk result (λ p. production_of p ≡
         (production_of step ⨟ Where tests.Failed Nothing (production_of rest))) }
 {
@@ -70,14 +70,14 @@ fn halted(alloc: Global, step: Production, rest: Production) -> Result<Productio
     Ok(found)
 }
 
-fn rounds(alloc: Global, round: Production, further: Production) -> Result<Production, AllocError>
+fn rounds(alloc: Global, round: Production, further: Production) -> Result<Production, OutOfMemory>
     ensures { IfOk result (λ p. production_of p ≡
         Rounds (production_of round) (production_of further)) }
 {
     Ok(Production::Rounds(Box::new(alloc, round)?, Box::new(alloc, further)?))
 }
 
-fn arm(alloc: Global, role: Role) -> Result<Production, AllocError>
+fn arm(alloc: Global, role: Role) -> Result<Production, OutOfMemory>
     ensures { IfOk result (λ p. production_of p ≡ arm role) }
 {
     let found = only(alloc, Test::TimeoutStands(role), work(Kind::Start(role)))?;
@@ -91,7 +91,7 @@ fn armed(
     within: Production,
     without: Production,
     after: Production,
-) -> Result<Production, AllocError>
+) -> Result<Production, OutOfMemory>
     requires { production_of without ≡ production_of within }
     ensures { IfOk result (λ p. production_of p ≡
         armed role (production_of within) (production_of after)) }
@@ -103,7 +103,7 @@ fn armed(
     Ok(found)
 }
 
-fn opening(alloc: Global) -> Result<Production, AllocError>
+fn opening(alloc: Global) -> Result<Production, OutOfMemory>
     ensures { IfOk result (λ p. production_of p ≡ opening) }
 {
     let rest = halted(
@@ -128,7 +128,7 @@ fn opening(alloc: Global) -> Result<Production, AllocError>
     Ok(rest)
 }
 
-fn sending(alloc: Global) -> Result<Production, AllocError>
+fn sending(alloc: Global) -> Result<Production, OutOfMemory>
     ensures { IfOk result (λ p. production_of p ≡ sending) }
 {
     let last = hook(Hook::ReadBeforeDeserialization);
@@ -138,7 +138,7 @@ fn sending(alloc: Global) -> Result<Production, AllocError>
     Ok(rest)
 }
 
-fn streaming(alloc: Global) -> Result<Production, AllocError>
+fn streaming(alloc: Global) -> Result<Production, OutOfMemory>
     ensures { IfOk result (λ p. production_of p ≡ streaming) }
 {
     let output = only(alloc, Test::BodyRead, work(Kind::Deserialize))?;
@@ -149,7 +149,7 @@ fn streaming(alloc: Global) -> Result<Production, AllocError>
     Ok(rest)
 }
 
-fn attempt(alloc: Global, stop: StopPoint) -> Result<Production, AllocError>
+fn attempt(alloc: Global, stop: StopPoint) -> Result<Production, OutOfMemory>
     ensures { IfOk result (λ p. production_of p ≡ attempt stop) }
 {
     match stop {
@@ -168,7 +168,7 @@ fn attempt(alloc: Global, stop: StopPoint) -> Result<Production, AllocError>
     }
 }
 
-fn settle(alloc: Global) -> Result<Production, AllocError>
+fn settle(alloc: Global) -> Result<Production, OutOfMemory>
     ensures { IfOk result (λ p. production_of p ≡ settle) }
 {
     let last = hook(Hook::ReadAfterAttempt);
@@ -176,14 +176,14 @@ fn settle(alloc: Global) -> Result<Production, AllocError>
     Ok(found)
 }
 
-fn tried(alloc: Global, stop: StopPoint) -> Result<Production, AllocError>
+fn tried(alloc: Global, stop: StopPoint) -> Result<Production, OutOfMemory>
     ensures { IfOk result (λ p. production_of p ≡ InAttempt (attempt stop)) }
 {
     let found = attempt(alloc, stop)?;
     Ok(Production::InAttempt(Box::new(alloc, found)?))
 }
 
-fn turn(alloc: Global, stop: StopPoint) -> Result<Production, AllocError>
+fn turn(alloc: Global, stop: StopPoint) -> Result<Production, OutOfMemory>
     ensures { IfOk result (λ p. production_of p ≡ turn stop) }
 {
     let within = tried(alloc, stop)?;
@@ -195,7 +195,7 @@ fn turn(alloc: Global, stop: StopPoint) -> Result<Production, AllocError>
     Ok(found)
 }
 
-fn grant_round(alloc: Global) -> Result<Production, AllocError>
+fn grant_round(alloc: Global) -> Result<Production, OutOfMemory>
     ensures { IfOk result (λ p. production_of p ≡ grant_round) }
 {
     let wait = then(alloc, work(Kind::Wait(Role::Send)), Production::Again)?;
@@ -206,7 +206,7 @@ fn grant_round(alloc: Global) -> Result<Production, AllocError>
     Ok(found)
 }
 
-fn grant(alloc: Global) -> Result<Production, AllocError>
+fn grant(alloc: Global) -> Result<Production, OutOfMemory>
     ensures { IfOk result (λ p. production_of p ≡ grant) }
 {
     let one = grant_round(alloc)?;
@@ -215,7 +215,7 @@ fn grant(alloc: Global) -> Result<Production, AllocError>
     Ok(found)
 }
 
-fn again(alloc: Global) -> Result<Production, AllocError>
+fn again(alloc: Global) -> Result<Production, OutOfMemory>
     ensures { IfOk result (λ p. production_of p ≡ again) }
 {
     let grant = grant(alloc)?;
@@ -226,7 +226,7 @@ fn again(alloc: Global) -> Result<Production, AllocError>
 }
 
 // What a decision of Yes leads to.
-fn further_now(alloc: Global) -> Result<Production, AllocError>
+fn further_now(alloc: Global) -> Result<Production, OutOfMemory>
     ensures { IfOk result (λ p. production_of p ≡ Where tests.CheckpointStands again Nothing) }
 {
     let again = again(alloc)?;
@@ -235,7 +235,7 @@ fn further_now(alloc: Global) -> Result<Production, AllocError>
 }
 
 // What a refusal with a pause leads to.
-fn long_poll(alloc: Global) -> Result<Production, AllocError>
+fn long_poll(alloc: Global) -> Result<Production, OutOfMemory>
     ensures { IfOk result (λ p. production_of p ≡
         (Work (kinds.Start roles.LongPoll) ⨟ Where (tests.HasStarted roles.LongPoll)
         (Work (kinds.Wait roles.LongPoll)) Nothing)) }
@@ -247,7 +247,7 @@ fn long_poll(alloc: Global) -> Result<Production, AllocError>
 }
 
 // What a decision of a delay leads to.
-fn further_later(alloc: Global) -> Result<Production, AllocError>
+fn further_later(alloc: Global) -> Result<Production, OutOfMemory>
     ensures { IfOk result (λ p. production_of p ≡
         (Work (kinds.Start roles.Retry) ⨟ Where (tests.HasStarted roles.Retry)
         (Where tests.CheckpointStands (Work (kinds.Wait roles.Retry) ⨟ again) Nothing) Nothing)) }
@@ -260,7 +260,7 @@ fn further_later(alloc: Global) -> Result<Production, AllocError>
     Ok(found)
 }
 
-fn round(alloc: Global, stop: StopPoint) -> Result<Production, AllocError>
+fn round(alloc: Global, stop: StopPoint) -> Result<Production, OutOfMemory>
     ensures { IfOk result (λ p. production_of p ≡ round stop) }
 {
     let later = further_later(alloc)?;
@@ -274,7 +274,7 @@ fn round(alloc: Global, stop: StopPoint) -> Result<Production, AllocError>
     Ok(found)
 }
 
-fn front(alloc: Global) -> Result<Production, AllocError>
+fn front(alloc: Global) -> Result<Production, OutOfMemory>
     ensures { IfOk result (λ p. production_of p ≡ front) }
 {
     let last = hook(Hook::ModifyBeforeRetryLoop);
@@ -287,7 +287,7 @@ fn front(alloc: Global) -> Result<Production, AllocError>
     Ok(rest)
 }
 
-fn op(alloc: Global, stop: StopPoint) -> Result<Production, AllocError>
+fn op(alloc: Global, stop: StopPoint) -> Result<Production, OutOfMemory>
     ensures { IfOk result (λ p. production_of p ≡ op stop) }
 {
     let one = round(alloc, stop)?;
@@ -301,7 +301,7 @@ fn op(alloc: Global, stop: StopPoint) -> Result<Production, AllocError>
     Ok(found)
 }
 
-fn finish(alloc: Global) -> Result<Production, AllocError>
+fn finish(alloc: Global) -> Result<Production, OutOfMemory>
     ensures { IfOk result (λ p. production_of p ≡ finish) }
 {
     let last = hook(Hook::ReadAfterExecution);
@@ -309,7 +309,7 @@ fn finish(alloc: Global) -> Result<Production, AllocError>
     Ok(found)
 }
 
-fn configured(alloc: Global, rest: Production) -> Result<Production, AllocError>
+fn configured(alloc: Global, rest: Production) -> Result<Production, OutOfMemory>
     ensures { IfOk result (λ p. production_of p ≡ configured (production_of rest)) }
 {
     let rest = halted(alloc, work(Kind::Configure(ConfigureStage::Final)), rest)?;
@@ -326,7 +326,7 @@ fn configured(alloc: Global, rest: Production) -> Result<Production, AllocError>
 
 /// The production of a run.
 #[tactic(auto, unfolding(run_grammar::specs::Grammar::run))]
-pub fn run(alloc: Global, stop: StopPoint) -> Result<Production, AllocError>
+pub fn run(alloc: Global, stop: StopPoint) -> Result<Production, OutOfMemory>
     ensures { IfOk result (λ p. production_of p ≡ run stop) }
 {
     let within = op(alloc, stop)?;

@@ -16,7 +16,8 @@ ghost use Rattle.run_grammar.specs.Production.{Nothing};
 
 use crate::reading::production::Production;
 use run_grammar::{Answer, Entry, Kind, Role, Standing, Test};
-use std::alloc::{AllocError, Global};
+use smithy_types::OutOfMemory;
+use std::alloc::Global;
 
 /// What stands, and the last entry.
 #[derive(Clone, Copy)]
@@ -113,7 +114,7 @@ fn holds(test: Test, seen: Seen<'_>) -> bool
 }
 
 // Puts a frame around what follows.
-fn enter<'a>(left: &mut Vec<Frame<'a>>, frame: Frame<'a>) -> Result<(), AllocError>
+fn enter<'a>(left: &mut Vec<Frame<'a>>, frame: Frame<'a>) -> Result<(), OutOfMemory>
     ensures { OnOk result (left.new.items ≡ left.old.items ++ frame.entry ∷ []) }
 {
     left.push(frame)?;
@@ -152,7 +153,7 @@ fn first<'a>(
     production: &'a Production,
     seen: Seen<'_>,
     left: &mut Vec<Frame<'a>>,
-) -> Result<Begun, AllocError>
+) -> Result<Begun, OutOfMemory>
     ensures { IfOk result (λ b. Found b left.old.items left.new.items
         (first (production_of production.now) (armed left.old.items) (state_of seen.entry))) }
 {
@@ -207,7 +208,7 @@ fn around<'a>(
     begun: Begun,
     seen: Seen<'_>,
     left: &mut Vec<Frame<'a>>,
-) -> Result<Begun, AllocError>
+) -> Result<Begun, OutOfMemory>
     requires { is_at begun ≡ false }
     ensures { IfOk result (λ b. Found b left.old.items left.new.items
         (around frame.entry (spot_of begun) (armed left.old.items) (state_of seen.entry))) }
@@ -235,7 +236,7 @@ fn around<'a>(
 }
 
 // Where the whole goes on after what was found within what is left around it.
-fn resume<'a>(begun: Begun, seen: Seen<'_>, left: &mut Vec<Frame<'a>>) -> Result<Begun, AllocError>
+fn resume<'a>(begun: Begun, seen: Seen<'_>, left: &mut Vec<Frame<'a>>) -> Result<Begun, OutOfMemory>
     ensures { IfOk result (λ b. (fs : List Frame) (t : Spot) → Found begun fs left.old.items t →
         Reached b left.new.items (outside fs t [] (state_of seen.entry))) }
 {
@@ -256,7 +257,7 @@ fn cut<'a>(
     role: Role,
     seen: Seen<'_>,
     left: &mut Vec<Frame<'a>>,
-) -> Result<Option<Begun>, AllocError>
+) -> Result<Option<Begun>, OutOfMemory>
     ensures { IfOk result (λ o. CutTo o left.new.items (cut (plug left.old.items Nothing) role)
         (state_of seen.entry)) }
 {
@@ -283,7 +284,7 @@ fn begin_after<'a>(
     after: &'a Production,
     seen: Seen<'_>,
     left: &mut Vec<Frame<'a>>,
-) -> Result<Begun, AllocError>
+) -> Result<Begun, OutOfMemory>
     ensures { IfOk result (λ b. Found b left.old.items left.new.items
         (first (cond inside (production_of after.now) Nothing) (armed left.old.items)
         (state_of seen.entry))) }
@@ -360,7 +361,7 @@ fn moved<'a>(
     entry: &Entry,
     seen: Seen<'_>,
     left: &mut Vec<Frame<'a>>,
-) -> Result<Stage, AllocError>
+) -> Result<Stage, OutOfMemory>
     ensures { IfOk result (λ g. place g left.new.items ≡
         next (place stage left.old.items) (state_of seen.entry) entry.now) }
 {
@@ -416,7 +417,7 @@ impl<'a> Walk<'a> {
         alloc: Global,
         production: &'a Production,
         seen: Seen<'_>,
-    ) -> Result<Walk<'a>, AllocError>
+    ) -> Result<Walk<'a>, OutOfMemory>
         ensures { IfOk result (λ w. position_of w ≡
             begin (production_of production.now) (state_of seen.entry)) }
     {
@@ -457,7 +458,7 @@ impl<'a> Walk<'a> {
     }
 
     /// Takes an entry; `seen` is what stands after it.
-    pub fn take(&mut self, entry: &Entry, seen: Seen<'_>) -> Result<(), AllocError>
+    pub fn take(&mut self, entry: &Entry, seen: Seen<'_>) -> Result<(), OutOfMemory>
         ensures { OnOk result (position_of self.new ≡
             next (position_of self.old) (state_of seen.entry) entry.now) }
     {

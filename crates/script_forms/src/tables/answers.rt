@@ -2,337 +2,332 @@
 
 use crate::form::Form;
 use crate::shape::{Keys, Shape, Table};
-use crate::tables::made;
 
-/// The table of a form, where it is of answers.
-pub fn table(form: Form) -> Option<Table> {
-    match form {
-        Form::Configured => made(
-            "configured",
-            "an answer to Configure: [\"Layer\", layer], [\"Failed\", text] or \"Absent\"",
-            Shape::Choice(&[Form::TaggedLayer, Form::TaggedFailed, Form::Absent]),
+/// The tables of kinds of questions and of answers, from that of `Absent` on in the order of the forms.
+pub const TABLES: &[Table] = &[
+    Table {
+        name: "absent",
+        wanted: "\"Absent\"",
+        shape: Shape::Word(&["Absent"]),
+    },
+    Table {
+        name: "pending_or_absent",
+        wanted: "\"Pending\" or \"Absent\"",
+        shape: Shape::Word(&["Pending", "Absent"]),
+    },
+    Table {
+        name: "pending_or_ready",
+        wanted: "\"Pending\" or \"Ready\"",
+        shape: Shape::Word(&["Pending", "Ready"]),
+    },
+    Table {
+        name: "done",
+        wanted: "\"Done\"",
+        shape: Shape::Word(&["Done"]),
+    },
+    Table {
+        name: "abandoned",
+        wanted: "\"Abandoned\"",
+        shape: Shape::Word(&["Abandoned"]),
+    },
+    Table {
+        name: "parked",
+        wanted: "\"Parked\"",
+        shape: Shape::Word(&["Parked"]),
+    },
+    Table {
+        name: "initial_word",
+        wanted: "\"Go\", \"No\" or \"Absent\"",
+        shape: Shape::Word(&["Go", "No", "Absent"]),
+    },
+    Table {
+        name: "started_or_absent",
+        wanted: "\"Started\" or \"Absent\"",
+        shape: Shape::Word(&["Started", "Absent"]),
+    },
+    Table {
+        name: "not_streaming_or_absent",
+        wanted: "\"NotStreaming\" or \"Absent\"",
+        shape: Shape::Word(&["NotStreaming", "Absent"]),
+    },
+    Table {
+        name: "decision_word",
+        wanted: "\"No\" or \"Yes\"",
+        shape: Shape::Word(&["No", "Yes"]),
+    },
+    Table {
+        name: "no_yes_or_absent",
+        wanted: "\"No\", \"Yes\" or \"Absent\"",
+        shape: Shape::Word(&["No", "Yes", "Absent"]),
+    },
+    Table {
+        name: "remark_word",
+        wanted: "a remark of Chosen",
+        shape: Shape::Word(&["Hit", "Load", "Uncached"]),
+    },
+    Table {
+        name: "optional_remark",
+        wanted: "a remark of Chosen or null",
+        shape: Shape::Choice(&[Form::RemarkWord, Form::Null]),
+    },
+    Table {
+        name: "tagged_layer",
+        wanted: "[\"Layer\", layer]",
+        shape: Shape::Tagged("Layer", &[Form::Layer]),
+    },
+    Table {
+        name: "tagged_failed",
+        wanted: "[\"Failed\", text]",
+        shape: Shape::Tagged("Failed", &[Form::ShortText]),
+    },
+    Table {
+        name: "tagged_request",
+        wanted: "[\"Request\", request]",
+        shape: Shape::Tagged("Request", &[Form::Request]),
+    },
+    Table {
+        name: "tagged_loaded",
+        wanted: "[\"Loaded\", blob]",
+        shape: Shape::Tagged("Loaded", &[Form::BodyBlob]),
+    },
+    Table {
+        name: "tagged_delay",
+        wanted: "[\"Delay\", n]",
+        shape: Shape::Tagged("Delay", &[Form::Number]),
+    },
+    Table {
+        name: "tagged_no_after",
+        wanted: "[\"NoAfter\", n]",
+        shape: Shape::Tagged("NoAfter", &[Form::Number]),
+    },
+    Table {
+        name: "tagged_chosen",
+        wanted: "[\"Chosen\", scheme, identity, endpoint or null, layer, remark or null]",
+        shape: Shape::Tagged(
+            "Chosen",
+            &[
+                Form::ShortText,
+                Form::Identity,
+                Form::OptionalEndpoint,
+                Form::Layer,
+                Form::OptionalRemark,
+            ],
         ),
-        Form::Hooked => made(
-            "hooked",
-            "an answer to a hook: \"Done\" or [\"Hook\", change or null, layer, text or null]",
-            Shape::Choice(&[Form::Done, Form::TaggedHook]),
+    },
+    Table {
+        name: "tagged_endpoint",
+        wanted: "[\"Endpoint\", endpoint]",
+        shape: Shape::Tagged("Endpoint", &[Form::Endpoint]),
+    },
+    Table {
+        name: "tagged_response",
+        wanted: "[\"Response\", response]",
+        shape: Shape::Tagged("Response", &[Form::Response]),
+    },
+    Table {
+        name: "tagged_connector_failed",
+        wanted: "[\"Failed\", connector kind, text]",
+        shape: Shape::Tagged("Failed", &[Form::ConnectorKind, Form::ShortText]),
+    },
+    Table {
+        name: "tagged_outcome",
+        wanted: "[\"Outcome\", outcome]",
+        shape: Shape::Tagged("Outcome", &[Form::Outcome]),
+    },
+    Table {
+        name: "tagged_read",
+        wanted: "[\"Read\", blob]",
+        shape: Shape::Tagged("Read", &[Form::BodyBlob]),
+    },
+    Table {
+        name: "tagged_noted",
+        wanted: "[\"Noted\", choice, remark]",
+        shape: Shape::Tagged("Noted", &[Form::Decision, Form::DecideRemark]),
+    },
+    Table {
+        name: "tagged_input",
+        wanted: "[\"Input\", payload]",
+        shape: Shape::Tagged("Input", &[Form::Payload]),
+    },
+    Table {
+        name: "tagged_hook",
+        wanted: "[\"Hook\", change or null, layer, text or null]",
+        shape: Shape::Tagged(
+            "Hook",
+            &[Form::OptionalChange, Form::Layer, Form::OptionalText],
         ),
-        Form::Requested => made(
-            "requested",
-            "[\"Request\", request], [\"Failed\", text] or \"Absent\"",
-            Shape::Choice(&[Form::TaggedRequest, Form::TaggedFailed, Form::Absent]),
-        ),
-        Form::Loaded => made(
-            "loaded",
-            "an answer to Load: \"Pending\", [\"Loaded\", blob], [\"Failed\", text] or \"Absent\"",
-            Shape::Choice(&[
-                Form::TaggedLoaded,
-                Form::TaggedFailed,
-                Form::PendingOrAbsent,
-            ]),
-        ),
-        Form::Initial => made(
-            "initial",
-            "an answer to Initial: \"Go\", \"No\", [\"Delay\", n], [\"Failed\", text] or \"Absent\"",
-            Shape::Choice(&[Form::InitialWord, Form::TaggedDelay, Form::TaggedFailed]),
-        ),
-        Form::Choosing => made(
-            "choosing",
-            "an answer to Choose: \"Pending\", [\"Chosen\", scheme, identity, endpoint or null, layer, remark or null], [\"Failed\", text] or \"Absent\"",
-            Shape::Choice(&[
-                Form::TaggedChosen,
-                Form::TaggedFailed,
-                Form::PendingOrAbsent,
-            ]),
-        ),
-        Form::Resolved => made(
-            "resolved",
-            "an answer to Endpoint: \"Pending\", [\"Endpoint\", endpoint], [\"Failed\", text] or \"Absent\"",
-            Shape::Choice(&[
-                Form::TaggedEndpoint,
-                Form::TaggedFailed,
-                Form::PendingOrAbsent,
-            ]),
-        ),
-        Form::Transmitted => made(
-            "transmitted",
-            "an answer to Transmit: \"Pending\", [\"Response\", response], [\"Failed\", connector kind, text] or \"Absent\"",
-            Shape::Choice(&[
-                Form::TaggedResponse,
-                Form::TaggedConnectorFailed,
-                Form::PendingOrAbsent,
-            ]),
-        ),
-        Form::Streamed => made(
-            "streamed",
-            "an answer to Stream: \"NotStreaming\", [\"Outcome\", outcome] or \"Absent\"",
-            Shape::Choice(&[Form::NotStreamingOrAbsent, Form::TaggedOutcome]),
-        ),
-        Form::BodyRead => made(
-            "body_read",
-            "an answer to Body: \"Pending\", [\"Read\", blob], [\"Failed\", text] or \"Absent\"",
-            Shape::Choice(&[Form::TaggedRead, Form::TaggedFailed, Form::PendingOrAbsent]),
-        ),
-        Form::Deserialized => made(
-            "deserialized",
-            "an answer to Deserialize: [\"Outcome\", outcome] or \"Absent\"",
-            Shape::Choice(&[Form::TaggedOutcome, Form::Absent]),
-        ),
-        Form::Decided => made(
-            "decided",
-            "an answer to Decide: \"No\", [\"NoAfter\", n], \"Yes\", [\"Delay\", n], [\"Noted\", choice, remark], [\"Failed\", text] or \"Absent\"",
-            Shape::Choice(&[
-                Form::NoYesOrAbsent,
-                Form::TaggedNoAfter,
-                Form::TaggedDelay,
-                Form::TaggedNoted,
-                Form::TaggedFailed,
-            ]),
-        ),
-        Form::Answer => made("answer", "[kind, answer]", Shape::Keyed(Keys::Questions)),
-        Form::Answers => made(
-            "answers",
-            "a list of [kind, answer]",
-            Shape::List(Form::Answer, 0),
-        ),
-        _ => word_table(form),
-    }
-}
-
-// Of answers and parts of answers that are words.
-fn word_table(form: Form) -> Option<Table> {
-    match form {
-        Form::Absent => made("absent", "\"Absent\"", Shape::Word(&["Absent"])),
-        Form::PendingOrAbsent => made(
-            "pending_or_absent",
-            "\"Pending\" or \"Absent\"",
-            Shape::Word(&["Pending", "Absent"]),
-        ),
-        Form::PendingOrReady => made(
-            "pending_or_ready",
-            "\"Pending\" or \"Ready\"",
-            Shape::Word(&["Pending", "Ready"]),
-        ),
-        Form::Done => made("done", "\"Done\"", Shape::Word(&["Done"])),
-        Form::Abandoned => made("abandoned", "\"Abandoned\"", Shape::Word(&["Abandoned"])),
-        Form::Parked => made("parked", "\"Parked\"", Shape::Word(&["Parked"])),
-        Form::InitialWord => made(
-            "initial_word",
-            "\"Go\", \"No\" or \"Absent\"",
-            Shape::Word(&["Go", "No", "Absent"]),
-        ),
-        Form::StartedOrAbsent => made(
-            "started_or_absent",
-            "\"Started\" or \"Absent\"",
-            Shape::Word(&["Started", "Absent"]),
-        ),
-        Form::NotStreamingOrAbsent => made(
-            "not_streaming_or_absent",
-            "\"NotStreaming\" or \"Absent\"",
-            Shape::Word(&["NotStreaming", "Absent"]),
-        ),
-        Form::DecisionWord => made(
-            "decision_word",
-            "\"No\" or \"Yes\"",
-            Shape::Word(&["No", "Yes"]),
-        ),
-        Form::NoYesOrAbsent => made(
-            "no_yes_or_absent",
-            "\"No\", \"Yes\" or \"Absent\"",
-            Shape::Word(&["No", "Yes", "Absent"]),
-        ),
-        Form::RemarkWord => made(
-            "remark_word",
-            "a remark of Chosen",
-            Shape::Word(&["Hit", "Load", "Uncached"]),
-        ),
-        Form::OptionalRemark => made(
-            "optional_remark",
-            "a remark of Chosen or null",
-            Shape::Choice(&[Form::RemarkWord, Form::Null]),
-        ),
-        Form::VerdictWord => made(
-            "verdict_word",
-            "\"NoActionIndicated\" or \"RetryForbidden\"",
-            Shape::Word(&["NoActionIndicated", "RetryForbidden"]),
-        ),
-        Form::ReasonWord => made(
-            "reason_word",
-            "\"NotIndicated\" or \"OutOfAttempts\"",
-            Shape::Word(&["NotIndicated", "OutOfAttempts"]),
-        ),
-        _ => tagged_table(form),
-    }
-}
-
-// Of arrays that begin with a word.
-fn tagged_table(form: Form) -> Option<Table> {
-    match form {
-        Form::TaggedLayer => made(
-            "tagged_layer",
-            "[\"Layer\", layer]",
-            Shape::Tagged("Layer", &[Form::Layer]),
-        ),
-        Form::TaggedFailed => made(
-            "tagged_failed",
-            "[\"Failed\", text]",
-            Shape::Tagged("Failed", &[Form::ShortText]),
-        ),
-        Form::TaggedRequest => made(
-            "tagged_request",
-            "[\"Request\", request]",
-            Shape::Tagged("Request", &[Form::Request]),
-        ),
-        Form::TaggedLoaded => made(
-            "tagged_loaded",
-            "[\"Loaded\", blob]",
-            Shape::Tagged("Loaded", &[Form::BodyBlob]),
-        ),
-        Form::TaggedDelay => made(
-            "tagged_delay",
-            "[\"Delay\", n]",
-            Shape::Tagged("Delay", &[Form::Number]),
-        ),
-        Form::TaggedNoAfter => made(
-            "tagged_no_after",
-            "[\"NoAfter\", n]",
-            Shape::Tagged("NoAfter", &[Form::Number]),
-        ),
-        Form::TaggedChosen => made(
-            "tagged_chosen",
-            "[\"Chosen\", scheme, identity, endpoint or null, layer, remark or null]",
-            Shape::Tagged(
-                "Chosen",
-                &[
-                    Form::ShortText,
-                    Form::Identity,
-                    Form::OptionalEndpoint,
-                    Form::Layer,
-                    Form::OptionalRemark,
-                ],
-            ),
-        ),
-        Form::TaggedEndpoint => made(
-            "tagged_endpoint",
-            "[\"Endpoint\", endpoint]",
-            Shape::Tagged("Endpoint", &[Form::Endpoint]),
-        ),
-        Form::TaggedResponse => made(
-            "tagged_response",
-            "[\"Response\", response]",
-            Shape::Tagged("Response", &[Form::Response]),
-        ),
-        Form::TaggedConnectorFailed => made(
-            "tagged_connector_failed",
-            "[\"Failed\", connector kind, text]",
-            Shape::Tagged("Failed", &[Form::ConnectorKind, Form::ShortText]),
-        ),
-        Form::TaggedOutcome => made(
-            "tagged_outcome",
-            "[\"Outcome\", outcome]",
-            Shape::Tagged("Outcome", &[Form::Outcome]),
-        ),
-        Form::TaggedRead => made(
-            "tagged_read",
-            "[\"Read\", blob]",
-            Shape::Tagged("Read", &[Form::BodyBlob]),
-        ),
-        Form::TaggedInput => made(
-            "tagged_input",
-            "[\"Input\", payload]",
-            Shape::Tagged("Input", &[Form::Payload]),
-        ),
-        Form::TaggedHook => made(
-            "tagged_hook",
-            "[\"Hook\", change or null, layer, text or null]",
-            Shape::Tagged(
-                "Hook",
-                &[Form::OptionalChange, Form::Layer, Form::OptionalText],
-            ),
-        ),
-        Form::OptionalChange => made(
-            "optional_change",
-            "a change or null",
-            Shape::Choice(&[
-                Form::TaggedInput,
-                Form::TaggedRequest,
-                Form::TaggedResponse,
-                Form::TaggedOutcome,
-                Form::Null,
-            ]),
-        ),
-        _ => remark_table(form),
-    }
-}
-
-// Of decisions and what they are made from.
-fn remark_table(form: Form) -> Option<Table> {
-    match form {
-        Form::TaggedNoted => made(
-            "tagged_noted",
-            "[\"Noted\", choice, remark]",
-            Shape::Tagged("Noted", &[Form::Decision, Form::DecideRemark]),
-        ),
-        Form::Decision => made(
-            "decision",
-            "a choice: \"No\", [\"NoAfter\", n], \"Yes\" or [\"Delay\", n]",
-            Shape::Choice(&[Form::DecisionWord, Form::TaggedNoAfter, Form::TaggedDelay]),
-        ),
-        Form::Indicated => made(
-            "indicated",
-            "[\"RetryIndicated\", error kind, retry_after or null]",
-            Shape::Tagged("RetryIndicated", &[Form::ErrorKind, Form::OptionalNumber]),
-        ),
-        Form::Verdict => made(
-            "verdict",
-            "a verdict",
-            Shape::Choice(&[Form::VerdictWord, Form::Indicated]),
-        ),
-        Form::TaggedNoQuota => made(
-            "tagged_no_quota",
-            "[\"NoQuota\", cost]",
-            Shape::Tagged("NoQuota", &[Form::Number32]),
-        ),
-        Form::TaggedGranted => made(
-            "tagged_granted",
-            "[\"Granted\", amount]",
-            Shape::Tagged("Granted", &[Form::Number32]),
-        ),
-        Form::Reason => made(
-            "reason",
-            "a reason",
-            Shape::Choice(&[Form::ReasonWord, Form::TaggedNoQuota, Form::TaggedGranted]),
-        ),
-        Form::Sums => made(
-            "sums",
-            "[capacity, granted, available, held, forgotten]",
-            Shape::Row(&[
-                Form::Number,
-                Form::Number,
-                Form::Number,
-                Form::Number,
-                Form::Number,
-            ]),
-        ),
-        Form::OptionalSums => made(
-            "optional_sums",
-            "[capacity, granted, available, held, forgotten] or null",
-            Shape::Choice(&[Form::Sums, Form::Null]),
-        ),
-        Form::DecideRemark => made(
-            "decide_remark",
-            "[verdict, moment or null, random number, reason, sums or null]",
-            Shape::Row(&[
-                Form::Verdict,
-                Form::OptionalNumber,
-                Form::Number,
-                Form::Reason,
-                Form::OptionalSums,
-            ]),
-        ),
-        _ => None,
-    }
-}
+    },
+    Table {
+        name: "optional_change",
+        wanted: "a change or null",
+        shape: Shape::Choice(&[
+            Form::TaggedInput,
+            Form::TaggedRequest,
+            Form::TaggedResponse,
+            Form::TaggedOutcome,
+            Form::Null,
+        ]),
+    },
+    Table {
+        name: "decision",
+        wanted: "a choice: \"No\", [\"NoAfter\", n], \"Yes\" or [\"Delay\", n]",
+        shape: Shape::Choice(&[Form::DecisionWord, Form::TaggedNoAfter, Form::TaggedDelay]),
+    },
+    Table {
+        name: "verdict_word",
+        wanted: "\"NoActionIndicated\" or \"RetryForbidden\"",
+        shape: Shape::Word(&["NoActionIndicated", "RetryForbidden"]),
+    },
+    Table {
+        name: "indicated",
+        wanted: "[\"RetryIndicated\", error kind, retry_after or null]",
+        shape: Shape::Tagged("RetryIndicated", &[Form::ErrorKind, Form::OptionalNumber]),
+    },
+    Table {
+        name: "verdict",
+        wanted: "a verdict",
+        shape: Shape::Choice(&[Form::VerdictWord, Form::Indicated]),
+    },
+    Table {
+        name: "reason_word",
+        wanted: "\"NotIndicated\" or \"OutOfAttempts\"",
+        shape: Shape::Word(&["NotIndicated", "OutOfAttempts"]),
+    },
+    Table {
+        name: "tagged_no_quota",
+        wanted: "[\"NoQuota\", cost]",
+        shape: Shape::Tagged("NoQuota", &[Form::Number32]),
+    },
+    Table {
+        name: "tagged_granted",
+        wanted: "[\"Granted\", amount]",
+        shape: Shape::Tagged("Granted", &[Form::Number32]),
+    },
+    Table {
+        name: "reason",
+        wanted: "a reason",
+        shape: Shape::Choice(&[Form::ReasonWord, Form::TaggedNoQuota, Form::TaggedGranted]),
+    },
+    Table {
+        name: "sums",
+        wanted: "[capacity, granted, available, held, forgotten]",
+        shape: Shape::Row(&[
+            Form::Number,
+            Form::Number,
+            Form::Number,
+            Form::Number,
+            Form::Number,
+        ]),
+    },
+    Table {
+        name: "optional_sums",
+        wanted: "[capacity, granted, available, held, forgotten] or null",
+        shape: Shape::Choice(&[Form::Sums, Form::Null]),
+    },
+    Table {
+        name: "decide_remark",
+        wanted: "[verdict, moment or null, random number, reason, sums or null]",
+        shape: Shape::Row(&[
+            Form::Verdict,
+            Form::OptionalNumber,
+            Form::Number,
+            Form::Reason,
+            Form::OptionalSums,
+        ]),
+    },
+    Table {
+        name: "configured",
+        wanted: "an answer to Configure: [\"Layer\", layer], [\"Failed\", text] or \"Absent\"",
+        shape: Shape::Choice(&[Form::TaggedLayer, Form::TaggedFailed, Form::Absent]),
+    },
+    Table {
+        name: "hooked",
+        wanted: "an answer to a hook: \"Done\" or [\"Hook\", change or null, layer, text or null]",
+        shape: Shape::Choice(&[Form::Done, Form::TaggedHook]),
+    },
+    Table {
+        name: "requested",
+        wanted: "[\"Request\", request], [\"Failed\", text] or \"Absent\"",
+        shape: Shape::Choice(&[Form::TaggedRequest, Form::TaggedFailed, Form::Absent]),
+    },
+    Table {
+        name: "loaded",
+        wanted: "an answer to Load: \"Pending\", [\"Loaded\", blob], [\"Failed\", text] or \"Absent\"",
+        shape: Shape::Choice(&[
+            Form::TaggedLoaded,
+            Form::TaggedFailed,
+            Form::PendingOrAbsent,
+        ]),
+    },
+    Table {
+        name: "initial",
+        wanted: "an answer to Initial: \"Go\", \"No\", [\"Delay\", n], [\"Failed\", text] or \"Absent\"",
+        shape: Shape::Choice(&[Form::InitialWord, Form::TaggedDelay, Form::TaggedFailed]),
+    },
+    Table {
+        name: "choosing",
+        wanted: "an answer to Choose: \"Pending\", [\"Chosen\", scheme, identity, endpoint or null, layer, remark or null], [\"Failed\", text] or \"Absent\"",
+        shape: Shape::Choice(&[
+            Form::TaggedChosen,
+            Form::TaggedFailed,
+            Form::PendingOrAbsent,
+        ]),
+    },
+    Table {
+        name: "resolved",
+        wanted: "an answer to Endpoint: \"Pending\", [\"Endpoint\", endpoint], [\"Failed\", text] or \"Absent\"",
+        shape: Shape::Choice(&[
+            Form::TaggedEndpoint,
+            Form::TaggedFailed,
+            Form::PendingOrAbsent,
+        ]),
+    },
+    Table {
+        name: "transmitted",
+        wanted: "an answer to Transmit: \"Pending\", [\"Response\", response], [\"Failed\", connector kind, text] or \"Absent\"",
+        shape: Shape::Choice(&[
+            Form::TaggedResponse,
+            Form::TaggedConnectorFailed,
+            Form::PendingOrAbsent,
+        ]),
+    },
+    Table {
+        name: "streamed",
+        wanted: "an answer to Stream: \"NotStreaming\", [\"Outcome\", outcome] or \"Absent\"",
+        shape: Shape::Choice(&[Form::NotStreamingOrAbsent, Form::TaggedOutcome]),
+    },
+    Table {
+        name: "body_read",
+        wanted: "an answer to Body: \"Pending\", [\"Read\", blob], [\"Failed\", text] or \"Absent\"",
+        shape: Shape::Choice(&[Form::TaggedRead, Form::TaggedFailed, Form::PendingOrAbsent]),
+    },
+    Table {
+        name: "deserialized",
+        wanted: "an answer to Deserialize: [\"Outcome\", outcome] or \"Absent\"",
+        shape: Shape::Choice(&[Form::TaggedOutcome, Form::Absent]),
+    },
+    Table {
+        name: "decided",
+        wanted: "an answer to Decide: \"No\", [\"NoAfter\", n], \"Yes\", [\"Delay\", n], [\"Noted\", choice, remark], [\"Failed\", text] or \"Absent\"",
+        shape: Shape::Choice(&[
+            Form::NoYesOrAbsent,
+            Form::TaggedNoAfter,
+            Form::TaggedDelay,
+            Form::TaggedNoted,
+            Form::TaggedFailed,
+        ]),
+    },
+    Table {
+        name: "answer",
+        wanted: "[kind, answer]",
+        shape: Shape::Keyed(Keys::Questions),
+    },
+    Table {
+        name: "answers",
+        wanted: "a list of [kind, answer]",
+        shape: Shape::List(Form::Answer, 0),
+    },
+];
 
 /// The kinds of questions.
 pub const KINDS: &[&str] = &[

@@ -2,259 +2,273 @@
 
 use crate::form::Form;
 use crate::shape::{Member, Shape, Table};
-use crate::tables::made;
 
-/// The table of a form, where it is of clients or callers.
-pub fn table(form: Form) -> Option<Table> {
-    match form {
-        Form::Capacity => made(
-            "capacity",
-            "a capacity, a whole number of 64 bits",
-            Shape::Number(0, u64::MAX),
-        ),
-        Form::Bucket => made(
-            "bucket",
-            "a bucket, [capacity, retry_cost, throttling_cost, transient_cost, reward, rate]",
-            Shape::Row(&[
-                Form::Capacity,
-                Form::Number32,
-                Form::Number32,
-                Form::Number32,
-                Form::Number,
-                Form::Number,
-            ]),
-        ),
-        Form::Buckets => made("buckets", "a list of buckets", Shape::List(Form::Bucket, 0)),
-        Form::RandomNumbers => made(
-            "random_numbers",
-            "a list of random numbers",
-            Shape::List(Form::Number, 0),
-        ),
-        Form::StopPoint => made(
-            "stop_point",
-            "a stop point",
-            Shape::Word(&["None", "BeforeTransmit"]),
-        ),
-        Form::Fuel => made(
-            "fuel",
-            "fuel, a whole number of 64 bits",
-            Shape::Number(0, u64::MAX),
-        ),
-        Form::BucketPlace => made("bucket_place", "the place of a bucket", Shape::BucketPlace),
-        Form::OptionalBucketPlace => made(
-            "optional_bucket_place",
-            "the place of a bucket or null",
-            Shape::Choice(&[Form::BucketPlace, Form::Null]),
-        ),
-        Form::ClientPlace => made("client_place", "the place of a client", Shape::ClientPlace),
-        Form::NeverWord => made("never", "\"never\"", Shape::Word(&["never"])),
-        Form::RetryChoice => made(
-            "retry_choice",
-            "\"never\" or [mode, max_attempts, initial, max_backoff, reconnect, static_base, spec]",
-            Shape::Choice(&[Form::NeverWord, Form::Retry]),
-        ),
-        Form::ClassifierWord => made(
-            "classifier_word",
-            "\"modeled\" or \"transient\"",
-            Shape::Word(&["modeled", "transient"]),
-        ),
-        Form::Statuses => made(
-            "statuses",
-            "a list of statuses",
-            Shape::List(Form::Number16, 0),
-        ),
-        Form::TaggedStatus => made(
-            "tagged_status",
-            "[\"status\", [codes]]",
-            Shape::Tagged("status", &[Form::Statuses]),
-        ),
-        Form::Classifier => made(
-            "classifier",
-            "a classifier: \"modeled\", \"transient\" or [\"status\", [codes]]",
-            Shape::Choice(&[Form::ClassifierWord, Form::TaggedStatus]),
-        ),
-        Form::Classifiers => made(
-            "classifiers",
-            "a list of classifiers",
-            Shape::List(Form::Classifier, 0),
-        ),
-        Form::Client => made("client", "a client object", Shape::Object(CLIENT)),
-        Form::Clients => made(
-            "clients",
-            "a list of client objects",
-            Shape::List(Form::Client, 0),
-        ),
-        Form::Caller => made(
-            "caller",
-            "a caller, an object with client and invocations",
-            Shape::Object(CALLER),
-        ),
-        Form::Callers => made(
-            "callers",
-            "a list of callers, at least one",
-            Shape::List(Form::Caller, 1),
-        ),
-        _ => auth_table(form),
-    }
-}
-
-// Of how a client signs.
-fn auth_table(form: Form) -> Option<Table> {
-    match form {
-        Form::NoneWord => made("none", "\"none\"", Shape::Word(&["none"])),
-        Form::Source => made(
-            "source",
-            "an identity source, [id, delay, identity or [\"Failed\", text]]",
-            Shape::Row(&[Form::ShortText, Form::Number, Form::IdentityAnswer]),
-        ),
-        Form::Sources => made(
-            "sources",
-            "a list of identity sources",
-            Shape::List(Form::Source, 0),
-        ),
-        Form::IdentityAnswer => made(
-            "identity_answer",
-            "an identity, [blob, expiration or null], or [\"Failed\", text]",
-            Shape::Choice(&[Form::FailedLoad, Form::Identity]),
-        ),
-        Form::FailedLoad => made(
-            "failed_load",
-            "[\"Failed\", text]",
-            Shape::Tagged("Failed", &[Form::ShortText]),
-        ),
-        Form::Expiration => made(
-            "expiration",
-            "an expiration, a whole number of at least 900000000000",
-            Shape::Number(900_000_000_000, u64::MAX),
-        ),
-        Form::Partitions => made(
-            "partitions",
-            "a number of partitions, at least 1",
-            Shape::Number(1, u64::MAX),
-        ),
-        Form::LazyTerms => made(
-            "lazy_terms",
-            "[buffer, expiration, partitions, load_timeout or null]",
-            Shape::Row(&[
-                Form::Number,
-                Form::Expiration,
-                Form::Partitions,
-                Form::OptionalNumber,
-            ]),
-        ),
-        Form::TaggedLazy => made(
-            "tagged_lazy",
-            "[\"lazy\", [buffer, expiration, partitions, load_timeout or null]]",
-            Shape::Tagged("lazy", &[Form::LazyTerms]),
-        ),
-        Form::Cache => made(
-            "cache",
-            "a cache, \"none\" or [\"lazy\", [buffer, expiration, partitions, load_timeout or null]]",
-            Shape::Choice(&[Form::NoneWord, Form::TaggedLazy]),
-        ),
-        Form::Schemes => made(
-            "schemes",
-            "[options, schemes, identities, preference or null, cache]",
-            Shape::Row(&[
-                Form::Texts,
-                Form::Texts,
-                Form::Sources,
-                Form::OptionalTexts,
-                Form::Cache,
-            ]),
-        ),
-        Form::Auth => made(
-            "auth",
-            "\"none\" or [options, schemes, identities, preference or null, cache]",
-            Shape::Choice(&[Form::NoneWord, Form::Schemes]),
-        ),
-        Form::Bearer => made("bearer", "[\"bearer\"]", Shape::Tagged("bearer", &[])),
-        Form::KeyLocation => made(
-            "key_location",
-            "\"Header\" or \"Query\"",
-            Shape::Word(&["Header", "Query"]),
-        ),
-        Form::ApiKey => made(
+/// The tables of clients and of callers, from that of `Capacity` on in the order of the forms.
+pub const TABLES: &[Table] = &[
+    Table {
+        name: "capacity",
+        wanted: "a capacity, a whole number of 64 bits",
+        shape: Shape::Number(0, u64::MAX),
+    },
+    Table {
+        name: "bucket",
+        wanted: "a bucket, [capacity, retry_cost, throttling_cost, transient_cost, reward, rate]",
+        shape: Shape::Row(&[
+            Form::Capacity,
+            Form::Number32,
+            Form::Number32,
+            Form::Number32,
+            Form::Number,
+            Form::Number,
+        ]),
+    },
+    Table {
+        name: "buckets",
+        wanted: "a list of buckets",
+        shape: Shape::List(Form::Bucket, 0),
+    },
+    Table {
+        name: "random_numbers",
+        wanted: "a list of random numbers",
+        shape: Shape::List(Form::Number, 0),
+    },
+    Table {
+        name: "stop_point",
+        wanted: "a stop point",
+        shape: Shape::Word(&["None", "BeforeTransmit"]),
+    },
+    Table {
+        name: "fuel",
+        wanted: "fuel, a whole number of 64 bits",
+        shape: Shape::Number(0, u64::MAX),
+    },
+    Table {
+        name: "bucket_place",
+        wanted: "the place of a bucket",
+        shape: Shape::BucketPlace,
+    },
+    Table {
+        name: "optional_bucket_place",
+        wanted: "the place of a bucket or null",
+        shape: Shape::Choice(&[Form::BucketPlace, Form::Null]),
+    },
+    Table {
+        name: "client_place",
+        wanted: "the place of a client",
+        shape: Shape::ClientPlace,
+    },
+    Table {
+        name: "never",
+        wanted: "\"never\"",
+        shape: Shape::Word(&["never"]),
+    },
+    Table {
+        name: "retry_choice",
+        wanted: "\"never\" or [mode, max_attempts, initial, max_backoff, reconnect, static_base, spec]",
+        shape: Shape::Choice(&[Form::NeverWord, Form::Retry]),
+    },
+    Table {
+        name: "classifier_word",
+        wanted: "\"modeled\" or \"transient\"",
+        shape: Shape::Word(&["modeled", "transient"]),
+    },
+    Table {
+        name: "statuses",
+        wanted: "a list of statuses",
+        shape: Shape::List(Form::Number16, 0),
+    },
+    Table {
+        name: "tagged_status",
+        wanted: "[\"status\", [codes]]",
+        shape: Shape::Tagged("status", &[Form::Statuses]),
+    },
+    Table {
+        name: "classifier",
+        wanted: "a classifier: \"modeled\", \"transient\" or [\"status\", [codes]]",
+        shape: Shape::Choice(&[Form::ClassifierWord, Form::TaggedStatus]),
+    },
+    Table {
+        name: "classifiers",
+        wanted: "a list of classifiers",
+        shape: Shape::List(Form::Classifier, 0),
+    },
+    Table {
+        name: "none",
+        wanted: "\"none\"",
+        shape: Shape::Word(&["none"]),
+    },
+    Table {
+        name: "source",
+        wanted: "an identity source, [id, delay, identity or [\"Failed\", text]]",
+        shape: Shape::Row(&[Form::ShortText, Form::Number, Form::IdentityAnswer]),
+    },
+    Table {
+        name: "sources",
+        wanted: "a list of identity sources",
+        shape: Shape::List(Form::Source, 0),
+    },
+    Table {
+        name: "failed_load",
+        wanted: "[\"Failed\", text]",
+        shape: Shape::Tagged("Failed", &[Form::ShortText]),
+    },
+    Table {
+        name: "identity_answer",
+        wanted: "an identity, [blob, expiration or null], or [\"Failed\", text]",
+        shape: Shape::Choice(&[Form::FailedLoad, Form::Identity]),
+    },
+    Table {
+        name: "expiration",
+        wanted: "an expiration, a whole number of at least 900000000000",
+        shape: Shape::Number(900_000_000_000, u64::MAX),
+    },
+    Table {
+        name: "partitions",
+        wanted: "a number of partitions, at least 1",
+        shape: Shape::Number(1, u64::MAX),
+    },
+    Table {
+        name: "lazy_terms",
+        wanted: "[buffer, expiration, partitions, load_timeout or null]",
+        shape: Shape::Row(&[
+            Form::Number,
+            Form::Expiration,
+            Form::Partitions,
+            Form::OptionalNumber,
+        ]),
+    },
+    Table {
+        name: "tagged_lazy",
+        wanted: "[\"lazy\", [buffer, expiration, partitions, load_timeout or null]]",
+        shape: Shape::Tagged("lazy", &[Form::LazyTerms]),
+    },
+    Table {
+        name: "cache",
+        wanted: "a cache, \"none\" or [\"lazy\", [buffer, expiration, partitions, load_timeout or null]]",
+        shape: Shape::Choice(&[Form::NoneWord, Form::TaggedLazy]),
+    },
+    Table {
+        name: "schemes",
+        wanted: "[options, schemes, identities, preference or null, cache]",
+        shape: Shape::Row(&[
+            Form::Texts,
+            Form::Texts,
+            Form::Sources,
+            Form::OptionalTexts,
+            Form::Cache,
+        ]),
+    },
+    Table {
+        name: "auth",
+        wanted: "\"none\" or [options, schemes, identities, preference or null, cache]",
+        shape: Shape::Choice(&[Form::NoneWord, Form::Schemes]),
+    },
+    Table {
+        name: "bearer",
+        wanted: "[\"bearer\"]",
+        shape: Shape::Tagged("bearer", &[]),
+    },
+    Table {
+        name: "key_location",
+        wanted: "\"Header\" or \"Query\"",
+        shape: Shape::Word(&["Header", "Query"]),
+    },
+    Table {
+        name: "api_key",
+        wanted: "[\"api_key\", \"Header\", name, prefix or null] or [\"api_key\", \"Query\", name, null]",
+        shape: Shape::Tagged(
             "api_key",
-            "[\"api_key\", \"Header\", name, prefix or null] or [\"api_key\", \"Query\", name, null]",
-            Shape::Tagged(
-                "api_key",
-                &[Form::KeyLocation, Form::ShortText, Form::OptionalText],
-            ),
+            &[Form::KeyLocation, Form::ShortText, Form::OptionalText],
         ),
-        Form::HttpScheme => made(
-            "http_scheme",
-            "[\"bearer\"] or [\"api_key\", \"Header\" or \"Query\", name, prefix or null]",
-            Shape::Choice(&[Form::Bearer, Form::ApiKey]),
-        ),
-        Form::HttpSchemes => made(
-            "http_schemes",
-            "a list of schemes of HTTP",
-            Shape::List(Form::HttpScheme, 0),
-        ),
-        _ => record_table(form),
-    }
-}
-
-// Of invocations and what comes of their requests.
-fn record_table(form: Form) -> Option<Table> {
-    match form {
-        Form::FailedRecord => made(
-            "failed_record",
-            "[delay, [\"Failed\", connector kind, text]]",
-            Shape::Row(&[Form::Number, Form::TaggedConnectorFailed]),
-        ),
-        Form::Frame => made(
-            "frame",
-            "a frame, [delay, blob]",
-            Shape::Row(&[Form::Number, Form::Blob]),
-        ),
-        Form::Frames => made(
-            "frames",
-            "a list of frames, [[delay, blob], ..]",
-            Shape::List(Form::Frame, 0),
-        ),
-        Form::ResponseRecord => made(
-            "response_record",
-            "[delay, status, headers, frames, repeat, clock]",
-            Shape::Row(&[
-                Form::Number,
-                Form::Number16,
-                Form::Headers,
-                Form::Frames,
-                Form::Truth,
-                Form::OptionalNumber,
-            ]),
-        ),
-        Form::Record => made(
-            "record",
-            "[delay, [\"Failed\", connector kind, text]] or [delay, status, headers, frames, repeat, clock]",
-            Shape::ByLength(Form::FailedRecord, Form::ResponseRecord),
-        ),
-        Form::Records => made("records", "a list of records", Shape::List(Form::Record, 0)),
-        Form::Invocation => made(
-            "invocation",
-            "an invocation, an object",
-            Shape::Object(INVOCATION),
-        ),
-        Form::Invocations => made(
-            "invocations",
-            "a list of invocations",
-            Shape::List(Form::Invocation, 0),
-        ),
-        Form::CallerInvocation => made(
-            "caller_invocation",
-            "an invocation of a caller, an object",
-            Shape::Object(CALLER_INVOCATION),
-        ),
-        Form::CallerInvocations => made(
-            "caller_invocations",
-            "a list of invocations",
-            Shape::List(Form::CallerInvocation, 0),
-        ),
-        _ => None,
-    }
-}
+    },
+    Table {
+        name: "http_scheme",
+        wanted: "[\"bearer\"] or [\"api_key\", \"Header\" or \"Query\", name, prefix or null]",
+        shape: Shape::Choice(&[Form::Bearer, Form::ApiKey]),
+    },
+    Table {
+        name: "http_schemes",
+        wanted: "a list of schemes of HTTP",
+        shape: Shape::List(Form::HttpScheme, 0),
+    },
+    Table {
+        name: "client",
+        wanted: "a client object",
+        shape: Shape::Object(CLIENT),
+    },
+    Table {
+        name: "clients",
+        wanted: "a list of client objects",
+        shape: Shape::List(Form::Client, 0),
+    },
+    Table {
+        name: "failed_record",
+        wanted: "[delay, [\"Failed\", connector kind, text]]",
+        shape: Shape::Row(&[Form::Number, Form::TaggedConnectorFailed]),
+    },
+    Table {
+        name: "frame",
+        wanted: "a frame, [delay, blob]",
+        shape: Shape::Row(&[Form::Number, Form::Blob]),
+    },
+    Table {
+        name: "frames",
+        wanted: "a list of frames, [[delay, blob], ..]",
+        shape: Shape::List(Form::Frame, 0),
+    },
+    Table {
+        name: "response_record",
+        wanted: "[delay, status, headers, frames, repeat, clock]",
+        shape: Shape::Row(&[
+            Form::Number,
+            Form::Number16,
+            Form::Headers,
+            Form::Frames,
+            Form::Truth,
+            Form::OptionalNumber,
+        ]),
+    },
+    Table {
+        name: "record",
+        wanted: "[delay, [\"Failed\", connector kind, text]] or [delay, status, headers, frames, repeat, clock]",
+        shape: Shape::ByLength(Form::FailedRecord, Form::ResponseRecord),
+    },
+    Table {
+        name: "records",
+        wanted: "a list of records",
+        shape: Shape::List(Form::Record, 0),
+    },
+    Table {
+        name: "invocation",
+        wanted: "an invocation, an object",
+        shape: Shape::Object(INVOCATION),
+    },
+    Table {
+        name: "invocations",
+        wanted: "a list of invocations",
+        shape: Shape::List(Form::Invocation, 0),
+    },
+    Table {
+        name: "caller_invocation",
+        wanted: "an invocation of a caller, an object",
+        shape: Shape::Object(CALLER_INVOCATION),
+    },
+    Table {
+        name: "caller_invocations",
+        wanted: "a list of invocations",
+        shape: Shape::List(Form::CallerInvocation, 0),
+    },
+    Table {
+        name: "caller",
+        wanted: "a caller, an object with client and invocations",
+        shape: Shape::Object(CALLER),
+    },
+    Table {
+        name: "callers",
+        wanted: "a list of callers, at least one",
+        shape: Shape::List(Form::Caller, 1),
+    },
+];
 
 const CLIENT: &[Member] = &[
     Member {

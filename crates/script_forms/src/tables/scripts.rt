@@ -3,82 +3,86 @@
 use crate::form::Form;
 use crate::shape::{Member, Shape, Table};
 
-/// The table of a form of waiters, or of a whole script.
-pub fn table(form: Form) -> Table {
-    match form {
-        Form::Span => of(
-            "span",
-            "a span of nanoseconds, a whole number of 64 bits",
-            Shape::Number(0, u64::MAX),
-        ),
-        Form::MinimumDelay => of(
-            "minimum_delay",
-            "a span of at least 1000000000 nanoseconds",
-            Shape::Number(1_000_000_000, u64::MAX),
-        ),
-        Form::TimeoutWord => of("timeout", "\"Timeout\"", Shape::Word(&["Timeout"])),
-        Form::TaggedService => of(
-            "tagged_service",
-            "[\"Service\", payload]",
-            Shape::Tagged("Service", &[Form::Payload]),
-        ),
-        Form::PollResult => of(
-            "poll_result",
-            "a result: [\"Output\", payload], [\"Service\", payload] or \"Timeout\"",
-            Shape::Choice(&[Form::TaggedOutput, Form::TaggedService, Form::TimeoutWord]),
-        ),
-        Form::AcceptorState => of(
-            "acceptor_state",
-            "what acceptors say",
-            Shape::Word(&["NoAcceptorsMatched", "Success", "Failure", "Retry"]),
-        ),
-        Form::Poll => of(
-            "poll",
-            "a poll, [nanos, result, state]",
-            Shape::Row(&[Form::Number, Form::PollResult, Form::AcceptorState]),
-        ),
-        Form::Polls => of(
-            "polls",
-            "a list of polls, at least one",
-            Shape::List(Form::Poll, 1),
-        ),
-        Form::Waiter => of(
-            "waiter",
-            "a waiter, an object with min, max, max_wait and polls",
-            Shape::Object(WAITER),
-        ),
-        Form::Waiters => of(
-            "waiters",
-            "a list of waiters, at least one",
-            Shape::List(Form::Waiter, 1),
-        ),
-        Form::ReplayScript => of(
-            "replay_script",
-            "a script of replay, an object",
-            Shape::Object(REPLAY),
-        ),
-        Form::ClientScript => of(
-            "client_script",
-            "a script of client, an object",
-            Shape::Object(CLIENT),
-        ),
-        Form::FleetScript => of(
-            "fleet_script",
-            "a script of fleet, an object",
-            Shape::Object(FLEET),
-        ),
-        Form::WaitScript => of(
-            "wait_script",
-            "a script of wait, an object",
-            Shape::Object(WAIT),
-        ),
-        _ => of(
-            "waiters_script",
-            "a script of waiters, an object",
-            Shape::Object(WAITERS),
-        ),
-    }
-}
+/// The tables of waiters and of whole scripts, from that of `Span` on in the order of the forms.
+pub const TABLES: &[Table] = &[
+    Table {
+        name: "span",
+        wanted: "a span of nanoseconds, a whole number of 64 bits",
+        shape: Shape::Number(0, u64::MAX),
+    },
+    Table {
+        name: "minimum_delay",
+        wanted: "a span of at least 1000000000 nanoseconds",
+        shape: Shape::Number(1_000_000_000, u64::MAX),
+    },
+    Table {
+        name: "timeout",
+        wanted: "\"Timeout\"",
+        shape: Shape::Word(&["Timeout"]),
+    },
+    Table {
+        name: "tagged_service",
+        wanted: "[\"Service\", payload]",
+        shape: Shape::Tagged("Service", &[Form::Payload]),
+    },
+    Table {
+        name: "poll_result",
+        wanted: "a result: [\"Output\", payload], [\"Service\", payload] or \"Timeout\"",
+        shape: Shape::Choice(&[Form::TaggedOutput, Form::TaggedService, Form::TimeoutWord]),
+    },
+    Table {
+        name: "acceptor_state",
+        wanted: "what acceptors say",
+        shape: Shape::Word(&["NoAcceptorsMatched", "Success", "Failure", "Retry"]),
+    },
+    Table {
+        name: "poll",
+        wanted: "a poll, [nanos, result, state]",
+        shape: Shape::Row(&[Form::Number, Form::PollResult, Form::AcceptorState]),
+    },
+    Table {
+        name: "polls",
+        wanted: "a list of polls, at least one",
+        shape: Shape::List(Form::Poll, 1),
+    },
+    Table {
+        name: "waiter",
+        wanted: "a waiter, an object with min, max, max_wait and polls",
+        shape: Shape::Object(WAITER),
+    },
+    Table {
+        name: "waiters",
+        wanted: "a list of waiters, at least one",
+        shape: Shape::List(Form::Waiter, 1),
+    },
+    Table {
+        name: "replay_script",
+        wanted: "a script of replay, an object",
+        shape: Shape::Object(REPLAY),
+    },
+    Table {
+        name: "client_script",
+        wanted: "a script of client, an object",
+        shape: Shape::Object(CLIENT),
+    },
+    Table {
+        name: "fleet_script",
+        wanted: "a script of fleet, an object",
+        shape: Shape::Object(FLEET),
+    },
+    Table {
+        name: "wait_script",
+        wanted: "a script of wait, an object",
+        shape: Shape::Object(WAIT),
+    },
+];
+
+/// The table of the last form, a script of waiters.
+pub const WAITERS_SCRIPT: Table = Table {
+    name: "waiters_script",
+    wanted: "a script of waiters, an object",
+    shape: Shape::Object(WAITERS),
+};
 
 fn of(name: &'static str, wanted: &'static str, shape: Shape) -> Table {
     Table {

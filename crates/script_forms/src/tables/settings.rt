@@ -2,78 +2,78 @@
 
 use crate::form::Form;
 use crate::shape::{Keys, Shape, Table};
-use crate::tables::made;
 
-/// The table of a form, where it is of settings.
-pub fn table(form: Form) -> Option<Table> {
-    match form {
-        Form::Timeouts => made(
-            "timeouts",
-            "[connect, read, operation, attempt], each nanoseconds or null",
-            Shape::Row(&[
-                Form::OptionalNumber,
-                Form::OptionalNumber,
-                Form::OptionalNumber,
-                Form::OptionalNumber,
-            ]),
-        ),
-        Form::RetryMode => made(
-            "retry_mode",
-            "a retry mode",
-            Shape::Word(&["Standard", "Adaptive"]),
-        ),
-        Form::ReconnectMode => made(
-            "reconnect_mode",
-            "a reconnect mode",
-            Shape::Word(&["ReconnectOnTransientError", "ReuseAllConnections"]),
-        ),
-        Form::SpecVersion => made("spec_version", "a version", Shape::Word(&["V2_0", "V2_1"])),
-        Form::Spec => made(
-            "spec",
-            "[version, long_polling, non_throttling_initial]",
-            Shape::Row(&[Form::SpecVersion, Form::Truth, Form::Number]),
-        ),
-        Form::OptionalSpec => made(
-            "optional_spec",
-            "[version, long_polling, non_throttling_initial] or null",
-            Shape::Choice(&[Form::Spec, Form::Null]),
-        ),
-        Form::Retry => made(
-            "retry",
-            "[mode, max_attempts, initial, max_backoff, reconnect, static_base, spec]",
-            Shape::Row(&[
-                Form::RetryMode,
-                Form::Number32,
-                Form::Number,
-                Form::Number,
-                Form::ReconnectMode,
-                Form::Truth,
-                Form::OptionalSpec,
-            ]),
-        ),
-        Form::Stall => made(
-            "stall",
-            "[upload, download, grace]",
-            Shape::Row(&[Form::Truth, Form::Truth, Form::Number]),
-        ),
-        Form::OptionalStall => made(
-            "optional_stall",
-            "[upload, download, grace] or null",
-            Shape::Choice(&[Form::Stall, Form::Null]),
-        ),
-        Form::Setting => made(
-            "setting",
-            "[key, value or null] of a setting",
-            Shape::Keyed(Keys::Settings),
-        ),
-        Form::Layer => made(
-            "layer",
-            "a layer, [[key, value], ..]",
-            Shape::List(Form::Setting, 0),
-        ),
-        _ => None,
-    }
-}
+/// The tables of settings, from that of `Timeouts` on in the order of the forms.
+pub const TABLES: &[Table] = &[
+    Table {
+        name: "timeouts",
+        wanted: "[connect, read, operation, attempt], each nanoseconds or null",
+        shape: Shape::Row(&[
+            Form::OptionalNumber,
+            Form::OptionalNumber,
+            Form::OptionalNumber,
+            Form::OptionalNumber,
+        ]),
+    },
+    Table {
+        name: "retry_mode",
+        wanted: "a retry mode",
+        shape: Shape::Word(&["Standard", "Adaptive"]),
+    },
+    Table {
+        name: "reconnect_mode",
+        wanted: "a reconnect mode",
+        shape: Shape::Word(&["ReconnectOnTransientError", "ReuseAllConnections"]),
+    },
+    Table {
+        name: "spec_version",
+        wanted: "a version",
+        shape: Shape::Word(&["V2_0", "V2_1"]),
+    },
+    Table {
+        name: "spec",
+        wanted: "[version, long_polling, non_throttling_initial]",
+        shape: Shape::Row(&[Form::SpecVersion, Form::Truth, Form::Number]),
+    },
+    Table {
+        name: "optional_spec",
+        wanted: "[version, long_polling, non_throttling_initial] or null",
+        shape: Shape::Choice(&[Form::Spec, Form::Null]),
+    },
+    Table {
+        name: "retry",
+        wanted: "[mode, max_attempts, initial, max_backoff, reconnect, static_base, spec]",
+        shape: Shape::Row(&[
+            Form::RetryMode,
+            Form::Number32,
+            Form::Number,
+            Form::Number,
+            Form::ReconnectMode,
+            Form::Truth,
+            Form::OptionalSpec,
+        ]),
+    },
+    Table {
+        name: "stall",
+        wanted: "[upload, download, grace]",
+        shape: Shape::Row(&[Form::Truth, Form::Truth, Form::Number]),
+    },
+    Table {
+        name: "optional_stall",
+        wanted: "[upload, download, grace] or null",
+        shape: Shape::Choice(&[Form::Stall, Form::Null]),
+    },
+    Table {
+        name: "setting",
+        wanted: "[key, value or null] of a setting",
+        shape: Shape::Keyed(Keys::Settings),
+    },
+    Table {
+        name: "layer",
+        wanted: "a layer, [[key, value], ..]",
+        shape: Shape::List(Form::Setting, 0),
+    },
+];
 
 /// The keys of settings, without those of a caller's own.
 pub const SETTING_KEYS: &[&str] = &[

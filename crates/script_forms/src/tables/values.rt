@@ -2,222 +2,228 @@
 
 use crate::form::Form;
 use crate::shape::{Bytes, Shape, Table, Texts};
-use crate::tables::made;
 
-/// The table of a form, where it is such a value.
-pub fn table(form: Form) -> Option<Table> {
-    match form {
-        Form::Null => made("null", "null", Shape::Null),
-        Form::Truth => made("truth", "true or false", Shape::Truth),
-        Form::True => made("mark", "true", Shape::True),
-        Form::Number => made(
-            "number",
-            "a whole number of 64 bits",
-            Shape::Number(0, u64::MAX),
-        ),
-        Form::Number32 => made(
-            "number_32",
-            "a whole number of 32 bits",
-            Shape::Number(0, 4294967295),
-        ),
-        Form::Number16 => made(
-            "number_16",
-            "a status, a whole number of 16 bits",
-            Shape::Number(0, 65535),
-        ),
-        Form::OptionalNumber => made(
-            "optional_number",
-            "a whole number of 64 bits or null",
-            Shape::Choice(&[Form::Number, Form::Null]),
-        ),
-        Form::Text => made("any_text", "a text", Shape::Text(Texts::Any)),
-        Form::ShortText => made("text", "a text", Shape::Text(Texts::Any)),
-        Form::OptionalText => made(
-            "optional_text",
-            "a text or null",
-            Shape::Choice(&[Form::ShortText, Form::Null]),
-        ),
-        Form::Texts => made("texts", "a list of texts", Shape::List(Form::ShortText, 0)),
-        Form::OptionalTexts => made(
-            "optional_texts",
-            "a list of texts or null",
-            Shape::Choice(&[Form::Texts, Form::Null]),
-        ),
-        Form::Blob => made(
-            "blob",
-            "bytes, a text or {\"hex\":\"00ff\"} with pairs in lower case",
-            Shape::Blob(Bytes::Any),
-        ),
-        Form::BodyBlob => made(
-            "body_blob",
-            "bytes, a text or {\"hex\":\"00ff\"} with pairs in lower case",
-            Shape::Blob(Bytes::Any),
-        ),
-        _ => http_table(form),
-    }
-}
-
-// Of requests, responses and what goes with them.
-fn http_table(form: Form) -> Option<Table> {
-    match form {
-        Form::Payload => made(
-            "payload",
-            "a payload, [kind, blob]",
-            Shape::Row(&[Form::Number32, Form::Blob]),
-        ),
-        Form::HeaderName => made(
-            "header_name",
-            "the name of a header",
-            Shape::Text(Texts::HeaderName),
-        ),
-        Form::HeaderValue => made(
-            "header_value",
-            "the value of a header, a blob of visible characters, spaces and tabs",
-            Shape::Blob(Bytes::HeaderValue),
-        ),
-        Form::Header => made(
-            "header",
-            "a header, [name, blob]",
-            Shape::Row(&[Form::HeaderName, Form::HeaderValue]),
-        ),
-        Form::Headers => made(
-            "headers",
-            "a list of headers, [[name, blob], ..]",
-            Shape::List(Form::Header, 0),
-        ),
-        Form::Once => made(
-            "once",
-            "[\"Once\", blob]",
-            Shape::Tagged("Once", &[Form::BodyBlob]),
-        ),
-        Form::Body => made(
-            "body",
-            "a body: a blob, [\"Once\", blob] or null",
-            Shape::Choice(&[Form::BodyBlob, Form::Once, Form::Null]),
-        ),
-        Form::Request => made(
-            "request",
-            "a request, [method, uri, headers, body]",
-            Shape::Row(&[Form::ShortText, Form::ShortText, Form::Headers, Form::Body]),
-        ),
-        Form::Response => made(
-            "response",
-            "a response, [status, headers, body]",
-            Shape::Row(&[Form::Number16, Form::Headers, Form::Body]),
-        ),
-        Form::Identity => made(
-            "identity",
-            "an identity, [blob, expiration or null]",
-            Shape::Row(&[Form::Blob, Form::OptionalNumber]),
-        ),
-        Form::EndpointHeader => made(
-            "endpoint_header",
-            "a header of an endpoint, [name, [values]]",
-            Shape::Row(&[Form::Text, Form::Texts]),
-        ),
-        Form::EndpointHeaders => made(
-            "endpoint_headers",
-            "a list of headers of an endpoint, [[name, [values]], ..]",
-            Shape::List(Form::EndpointHeader, 0),
-        ),
-        Form::Endpoint => made(
-            "endpoint",
-            "an endpoint, [url, headers, schemes or null]",
-            Shape::Row(&[Form::ShortText, Form::EndpointHeaders, Form::OptionalTexts]),
-        ),
-        Form::OptionalEndpoint => made(
-            "optional_endpoint",
-            "an endpoint, [url, headers, schemes or null], or null",
-            Shape::Choice(&[Form::Endpoint, Form::Null]),
-        ),
-        _ => fault_table(form),
-    }
-}
-
-// Of failures and outcomes.
-fn fault_table(form: Form) -> Option<Table> {
-    match form {
-        Form::ErrorKind => made(
-            "error_kind",
-            "an error kind",
-            Shape::Word(&[
-                "TransientError",
-                "ThrottlingError",
-                "ServerError",
-                "ClientError",
-            ]),
-        ),
-        Form::OptionalErrorKind => made(
-            "optional_error_kind",
-            "an error kind or null",
-            Shape::Choice(&[Form::ErrorKind, Form::Null]),
-        ),
-        Form::ConnectorWord => made(
-            "connector_word",
-            "\"Timeout\", \"User\" or \"Io\"",
-            Shape::Word(&["Timeout", "User", "Io"]),
-        ),
-        Form::ConnectorOther => made(
-            "connector_other",
-            "[\"Other\", error kind or null]",
-            Shape::Tagged("Other", &[Form::OptionalErrorKind]),
-        ),
-        Form::ConnectorKind => made(
-            "connector_kind",
-            "a connector kind",
-            Shape::Choice(&[Form::ConnectorWord, Form::ConnectorOther]),
-        ),
-        Form::FaultOperation => made(
-            "fault_operation",
-            "[\"Operation\", payload, text]",
-            Shape::Tagged("Operation", &[Form::Payload, Form::ShortText]),
-        ),
-        Form::FaultConnector => made(
-            "fault_connector",
-            "[\"Connector\", kind, text]",
-            Shape::Tagged("Connector", &[Form::ConnectorKind, Form::ShortText]),
-        ),
-        Form::FaultTimeout => made(
-            "fault_timeout",
-            "[\"Timeout\", text]",
-            Shape::Tagged("Timeout", &[Form::ShortText]),
-        ),
-        Form::FaultResponse => made(
-            "fault_response",
-            "[\"Response\", text]",
-            Shape::Tagged("Response", &[Form::ShortText]),
-        ),
-        Form::FaultOther => made(
-            "fault_other",
-            "[\"Other\", text]",
-            Shape::Tagged("Other", &[Form::ShortText]),
-        ),
-        Form::Fault => made(
-            "fault",
-            "a fault",
-            Shape::Choice(&[
-                Form::FaultOperation,
-                Form::FaultConnector,
-                Form::FaultTimeout,
-                Form::FaultResponse,
-                Form::FaultOther,
-            ]),
-        ),
-        Form::TaggedOutput => made(
-            "output",
-            "[\"Output\", payload]",
-            Shape::Tagged("Output", &[Form::Payload]),
-        ),
-        Form::TaggedFault => made(
-            "failed",
-            "[\"Failed\", fault]",
-            Shape::Tagged("Failed", &[Form::Fault]),
-        ),
-        Form::Outcome => made(
-            "outcome",
-            "an outcome",
-            Shape::Choice(&[Form::TaggedOutput, Form::TaggedFault]),
-        ),
-        _ => None,
-    }
-}
+/// The tables of plain values, of requests, responses and failures, from that of `Null` on in the order of the forms.
+pub const TABLES: &[Table] = &[
+    Table {
+        name: "null",
+        wanted: "null",
+        shape: Shape::Null,
+    },
+    Table {
+        name: "truth",
+        wanted: "true or false",
+        shape: Shape::Truth,
+    },
+    Table {
+        name: "mark",
+        wanted: "true",
+        shape: Shape::True,
+    },
+    Table {
+        name: "number",
+        wanted: "a whole number of 64 bits",
+        shape: Shape::Number(0, u64::MAX),
+    },
+    Table {
+        name: "number_32",
+        wanted: "a whole number of 32 bits",
+        shape: Shape::Number(0, 4294967295),
+    },
+    Table {
+        name: "number_16",
+        wanted: "a status, a whole number of 16 bits",
+        shape: Shape::Number(0, 65535),
+    },
+    Table {
+        name: "optional_number",
+        wanted: "a whole number of 64 bits or null",
+        shape: Shape::Choice(&[Form::Number, Form::Null]),
+    },
+    Table {
+        name: "any_text",
+        wanted: "a text",
+        shape: Shape::Text(Texts::Any),
+    },
+    Table {
+        name: "text",
+        wanted: "a text",
+        shape: Shape::Text(Texts::Any),
+    },
+    Table {
+        name: "optional_text",
+        wanted: "a text or null",
+        shape: Shape::Choice(&[Form::ShortText, Form::Null]),
+    },
+    Table {
+        name: "texts",
+        wanted: "a list of texts",
+        shape: Shape::List(Form::ShortText, 0),
+    },
+    Table {
+        name: "optional_texts",
+        wanted: "a list of texts or null",
+        shape: Shape::Choice(&[Form::Texts, Form::Null]),
+    },
+    Table {
+        name: "blob",
+        wanted: "bytes, a text or {\"hex\":\"00ff\"} with pairs in lower case",
+        shape: Shape::Blob(Bytes::Any),
+    },
+    Table {
+        name: "body_blob",
+        wanted: "bytes, a text or {\"hex\":\"00ff\"} with pairs in lower case",
+        shape: Shape::Blob(Bytes::Any),
+    },
+    Table {
+        name: "payload",
+        wanted: "a payload, [kind, blob]",
+        shape: Shape::Row(&[Form::Number32, Form::Blob]),
+    },
+    Table {
+        name: "header_name",
+        wanted: "the name of a header",
+        shape: Shape::Text(Texts::HeaderName),
+    },
+    Table {
+        name: "header_value",
+        wanted: "the value of a header, a blob of visible characters, spaces and tabs",
+        shape: Shape::Blob(Bytes::HeaderValue),
+    },
+    Table {
+        name: "header",
+        wanted: "a header, [name, blob]",
+        shape: Shape::Row(&[Form::HeaderName, Form::HeaderValue]),
+    },
+    Table {
+        name: "headers",
+        wanted: "a list of headers, [[name, blob], ..]",
+        shape: Shape::List(Form::Header, 0),
+    },
+    Table {
+        name: "once",
+        wanted: "[\"Once\", blob]",
+        shape: Shape::Tagged("Once", &[Form::BodyBlob]),
+    },
+    Table {
+        name: "body",
+        wanted: "a body: a blob, [\"Once\", blob] or null",
+        shape: Shape::Choice(&[Form::BodyBlob, Form::Once, Form::Null]),
+    },
+    Table {
+        name: "request",
+        wanted: "a request, [method, uri, headers, body]",
+        shape: Shape::Row(&[Form::ShortText, Form::ShortText, Form::Headers, Form::Body]),
+    },
+    Table {
+        name: "response",
+        wanted: "a response, [status, headers, body]",
+        shape: Shape::Row(&[Form::Number16, Form::Headers, Form::Body]),
+    },
+    Table {
+        name: "identity",
+        wanted: "an identity, [blob, expiration or null]",
+        shape: Shape::Row(&[Form::Blob, Form::OptionalNumber]),
+    },
+    Table {
+        name: "endpoint_header",
+        wanted: "a header of an endpoint, [name, [values]]",
+        shape: Shape::Row(&[Form::Text, Form::Texts]),
+    },
+    Table {
+        name: "endpoint_headers",
+        wanted: "a list of headers of an endpoint, [[name, [values]], ..]",
+        shape: Shape::List(Form::EndpointHeader, 0),
+    },
+    Table {
+        name: "endpoint",
+        wanted: "an endpoint, [url, headers, schemes or null]",
+        shape: Shape::Row(&[Form::ShortText, Form::EndpointHeaders, Form::OptionalTexts]),
+    },
+    Table {
+        name: "optional_endpoint",
+        wanted: "an endpoint, [url, headers, schemes or null], or null",
+        shape: Shape::Choice(&[Form::Endpoint, Form::Null]),
+    },
+    Table {
+        name: "error_kind",
+        wanted: "an error kind",
+        shape: Shape::Word(&[
+            "TransientError",
+            "ThrottlingError",
+            "ServerError",
+            "ClientError",
+        ]),
+    },
+    Table {
+        name: "optional_error_kind",
+        wanted: "an error kind or null",
+        shape: Shape::Choice(&[Form::ErrorKind, Form::Null]),
+    },
+    Table {
+        name: "connector_word",
+        wanted: "\"Timeout\", \"User\" or \"Io\"",
+        shape: Shape::Word(&["Timeout", "User", "Io"]),
+    },
+    Table {
+        name: "connector_other",
+        wanted: "[\"Other\", error kind or null]",
+        shape: Shape::Tagged("Other", &[Form::OptionalErrorKind]),
+    },
+    Table {
+        name: "connector_kind",
+        wanted: "a connector kind",
+        shape: Shape::Choice(&[Form::ConnectorWord, Form::ConnectorOther]),
+    },
+    Table {
+        name: "fault_operation",
+        wanted: "[\"Operation\", payload, text]",
+        shape: Shape::Tagged("Operation", &[Form::Payload, Form::ShortText]),
+    },
+    Table {
+        name: "fault_connector",
+        wanted: "[\"Connector\", kind, text]",
+        shape: Shape::Tagged("Connector", &[Form::ConnectorKind, Form::ShortText]),
+    },
+    Table {
+        name: "fault_timeout",
+        wanted: "[\"Timeout\", text]",
+        shape: Shape::Tagged("Timeout", &[Form::ShortText]),
+    },
+    Table {
+        name: "fault_response",
+        wanted: "[\"Response\", text]",
+        shape: Shape::Tagged("Response", &[Form::ShortText]),
+    },
+    Table {
+        name: "fault_other",
+        wanted: "[\"Other\", text]",
+        shape: Shape::Tagged("Other", &[Form::ShortText]),
+    },
+    Table {
+        name: "fault",
+        wanted: "a fault",
+        shape: Shape::Choice(&[
+            Form::FaultOperation,
+            Form::FaultConnector,
+            Form::FaultTimeout,
+            Form::FaultResponse,
+            Form::FaultOther,
+        ]),
+    },
+    Table {
+        name: "output",
+        wanted: "[\"Output\", payload]",
+        shape: Shape::Tagged("Output", &[Form::Payload]),
+    },
+    Table {
+        name: "failed",
+        wanted: "[\"Failed\", fault]",
+        shape: Shape::Tagged("Failed", &[Form::Fault]),
+    },
+    Table {
+        name: "outcome",
+        wanted: "an outcome",
+        shape: Shape::Choice(&[Form::TaggedOutput, Form::TaggedFault]),
+    },
+];

@@ -10,7 +10,7 @@ pub returns-in-Ok-clause-made : goal.returns-in-Ok-clause-made
 returns-in-Ok-clause-made g c =
     let log_is = c.replace-log.ensures.value ∙ c.swap_parts-2.ensures.log in
     let empty = c.swap_parts.ensures.log ∙ c.in_ok-empty_log.ensures in
-    let begins = c.begin_invocation-2.ensures ∙ ap (λ i. begun c.args.invocation.responses i c.args.outside.now) c.in_ok-clone.ensures.cases in
+    let begins = c.begin_invocation.ensures ∙ ap (λ i. begun c.args.invocation.responses i c.args.outside.now) c.in_ok-clone.ensures.cases in
     record {
       entered = c.swap_parts.new.self;
       served = c.run_over-ran.new.world;
@@ -26,7 +26,7 @@ returns-in-Ok-clause-made g c =
 
 pub returns-clause-lost : goal.returns-clause-lost
 returns-clause-lost g c =
-    let begins = c.begin_invocation-2.ensures ∙ ap (λ i. begun c.args.invocation.responses i c.args.outside.now) c.in_ok-clone.ensures.cases in
+    let begins = c.begin_invocation.ensures ∙ ap (λ i. begun c.args.invocation.responses i c.args.outside.now) c.in_ok-clone.ensures.cases in
     inr (record {
       entered = c.swap_parts.new.self;
       stopped = c.run_over-ran.new.world;
@@ -42,5 +42,5 @@ returns-in_err-clone-clause-lost g c = at_err _ _ (inl (refl, refl, inl refl))
 
 pub returns-in_err-empty_log-clause-lost : goal.returns-in_err-empty_log-clause-lost
 returns-in_err-empty_log-clause-lost g c =
-    let begins = c.begin_invocation-2.ensures ∙ ap (λ i. begun c.args.invocation.responses i c.args.outside.now) c.in_ok-clone.ensures.cases in
+    let begins = c.begin_invocation.ensures ∙ ap (λ i. begun c.args.invocation.responses i c.args.outside.now) c.in_ok-clone.ensures.cases in
     at_err _ _ (inl (refl, refl, inr begins))

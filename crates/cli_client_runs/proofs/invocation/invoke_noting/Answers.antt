@@ -10,7 +10,7 @@ use Rattle.cli_client_runs.proofs.invocation.invoke_noting.Goals as goal
 pub returns : goal.returns
 returns g c =
     let log_is = c.replace-log.ensures.value ∙ c.swap_parts-2.ensures.log in
-    let begins = c.begin_invocation-2.ensures ∙ ap (λ i. begun c.args.invocation.responses i c.args.outside.now) c.in_ok-clone.ensures.cases in
+    let begins = c.begin_invocation.ensures ∙ ap (λ i. begun c.args.invocation.responses i c.args.outside.now) c.in_ok-clone.ensures.cases in
     let relates = ServedBy g.C.ClassifyRetry.says (record { names = g.I.Intercept.names; hooks = g.I.Intercept.hooks; runs = g.I.Intercept.runs; with_bucket = g.I.TakeOffer.with_bucket; with_verdict = g.I.TakeOffer.with_verdict }) in
     let noted = subst (λ l. Noted relates (λ w. w.parts.outside.moment) c.swap_parts.new.self c.args.moments l c.in_ok-ran.ran.world c.in_ok-ran.ran.moments) (sym log_is) c.in_ok-ran.ensures.noted in
     record {

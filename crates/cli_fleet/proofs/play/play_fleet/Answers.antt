@@ -1,9 +1,8 @@
 use Rattle.std.proofs.Common.{◌∙◌, ◌++◌, ap, map, subst, sym}
 use Rattle.retry_quota_cell.specs.Fleet.{AreTheirs}
 use Rattle.retry_quota_cell.specs.Known.{opening_of}
-use Rattle.retry_quota.specs.Book.{sums_of}
+use Rattle.retry_quota.specs.Book.{book_of, sums_of}
 use Rattle.retry_quota.specs.History.{end_of}
-use Rattle.client_scripted.specs.Buckets.{book_of}
 use Rattle.cli_shell.specs.declared.status.PrintStatus.TheVariants as outcomes
 use denote.Param.Send.{param_send, param_sync, sendable}
 use Rattle.cli_fleet.proofs.Crosses.{caller_send}
@@ -32,7 +31,7 @@ returns g c =
     let states = map (λ x. x.state) callers in
     let log = c.run_callers-callers.ensures.history.0 in
     let length_is = c.run_callers-callers.ensures.history.3 in
-    let opened = c.in_ok-bucket.ensures.opening ∙ ap (λ b. opening_of b c.len-count.result) c.bucket_of.ensures ∙ ap (opening_of (book_of script.bucket)) (c.len-count.ensures ∙ c.in_ok-callers.ensures.count) in
+    let opened = c.in_ok-bucket.ensures.opening ∙ ap (λ b. opening_of b c.len-count.result) c.with_terms.ensures ∙ ap (opening_of (book_of script.bucket)) (c.len-count.ensures ∙ c.in_ok-callers.ensures.count) in
     let sums_is = c.run_callers-callers.ensures.history.2 ∙ ap (λ o. sums_of (end_of o.book log)) opened in
     let text = callers_text 0 (map (λ d. d.text) (map done_of states)) in
     record {

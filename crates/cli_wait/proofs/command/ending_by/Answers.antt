@@ -1,4 +1,4 @@
-use Rattle.cli_wait.proofs.Saying.{each_ok}
+use Rattle.cli_wait.proofs.Results.{each_ok}
 use Rattle.cli_wait.proofs.command.ending_by.Goals as goal
 
 pub returns : goal.returns

@@ -2,8 +2,8 @@ use Rattle.std.proofs.Common.{◌≡◌, drop}
 use Rattle.json_forms.specs.View.{items_view}
 use Rattle.json_forms.specs.Lists.{list_of}
 use Rattle.json_forms.proofs.ReadLists.{behind}
-use Rattle.json_scripts.specs.Client.Buckets.{bucket_terms_at}
-use Rattle.json_scripts.proofs.client.buckets.bucket_items.Given as goal
+use Rattle.json_scripts.specs.Buckets.{bucket_terms_at}
+use Rattle.json_scripts.proofs.buckets.bucket_items.Given as goal
 
 abbrev pub invariant-loop-value : goal.invariant-loop-value
 invariant-loop-value l = behind l.list (list_of bucket_terms_at (items_view (drop l.value-index l.items))) ≡ list_of bucket_terms_at (items_view l.items)

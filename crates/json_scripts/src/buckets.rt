@@ -3,32 +3,33 @@ ghost use Rattle.std.specs.Prelude.{◌≡◌};
 ghost use Rattle.json_forms.specs.View.{view, items_view};
 ghost use Rattle.json_forms.specs.Lists.{list_of};
 ghost use Rattle.json_forms.specs.Reading.{Reads};
-ghost use Rattle.json_scripts.specs.Client.Buckets.{bucket_terms_at, buckets_at};
+ghost use Rattle.json_scripts.specs.Buckets.{bucket_terms_at, buckets_at};
 
-use crate::client::terms::BucketTerms;
 use json_forms::{ReadError, Value, read};
+use retry_quota::BucketTerms;
 use smithy_types::List;
 use std::alloc::Global;
 
-/// The terms of a bucket.
-#[tactic(auto, unfolding(crate::specs::Client::Buckets::bucket_terms_at))]
+/// The terms of a bucket: its capacity, what a retry, one after throttling and one after a transient
+/// error cost, its reward and its rate.
+#[tactic(auto, unfolding(crate::specs::Buckets::bucket_terms_at))]
 pub fn read_bucket_terms(value: &Value) -> Result<BucketTerms, ReadError>
     ensures { Reads result (bucket_terms_at (view value.now)) }
 {
     let (capacity, retry, throttling, transient, reward, rate) = read::sextuple(value)?;
     let capacity = read::number(capacity)?;
     let retry_cost = read::number_32(retry)?;
-    let throttling_cost = read::number_32(throttling)?;
-    let transient_cost = read::number_32(transient)?;
-    let reward = read::number(reward)?;
-    let rate = read::number(rate)?;
+    let throttling_retry_cost = read::number_32(throttling)?;
+    let timeout_retry_cost = read::number_32(transient)?;
+    let success_reward = read::number(reward)?;
+    let refill_rate = read::number(rate)?;
     Ok(BucketTerms {
         capacity,
         retry_cost,
-        throttling_cost,
-        transient_cost,
-        reward,
-        rate,
+        throttling_retry_cost,
+        timeout_retry_cost,
+        success_reward,
+        refill_rate,
     })
 }
 
@@ -47,7 +48,7 @@ fn bucket_items(alloc: Global, items: &[Value]) -> Result<List<BucketTerms>, Rea
 }
 
 /// The buckets of a script.
-#[tactic(auto, unfolding(crate::specs::Client::Buckets::buckets_at))]
+#[tactic(auto, unfolding(crate::specs::Buckets::buckets_at))]
 pub fn read_buckets(alloc: Global, value: &Value) -> Result<List<BucketTerms>, ReadError>
     ensures { Reads result (buckets_at (view value.now)) }
 {
