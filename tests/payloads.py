@@ -1,13 +1,15 @@
 """Payloads of JSON, as `json_payloads` reads and makes them, against the `json` of Python.
 
-The program `golden_payloads` reads a shipment of each line and makes it again. The lines of the
-table below stand with their outcomes in its crate, so that the gate runs them too.
+The program `golden_payloads` reads a shipment of each line, a declaration or a refusal, and makes it
+again. The lines of the table below stand with their outcomes in its crate, so that the gate runs
+them too.
 """
 import base64
 import json
 import random
 import subprocess
 import unittest
+from datetime import datetime, timedelta
 from typing import Any, Dict, Iterable, List, NamedTuple, Tuple
 
 from .support.program import TOP
@@ -20,11 +22,13 @@ Json = Dict[str, Any]
 
 
 class Row(NamedTuple):
-    """A line for the program: its name, the payload's bytes, and what is wanted of them."""
+    """A line for the program: its name, the payload's bytes, what is wanted of them, and of which
+    structure they are."""
 
     name: str
     payload: bytes
     outcome: str
+    structure: str = "shipment"
 
 
 # ---- shipments
@@ -164,9 +168,81 @@ def text_rows() -> Iterable[Row]:
     yield Row("a number beyond floats", huge, "NotJson")
 
 
+# ---- declarations, of thirty members
+
+ADDRESS: Json = {"street": "Low Road", "house": 4}
+DECLARATION: Json = {
+    "number": "d-1", "exporter": "Ada", "exporterAddress": ADDRESS, "importer": "Bo",
+    "importerAddress": {"street": "High Road"}, "contents": ["a book", "a pen"],
+    "weightGrams": 500, "lengthMillimeters": 300, "widthMillimeters": 200,
+    "heightMillimeters": 50, "valueCents": 2500, "currency": "EUR", "origin": "NL",
+    "destination": "NO", "transit": ["DE", "DK"], "tariff": "4901", "dutyCents": 0,
+    "taxCents": 625, "insuredCents": 2**64 - 1, "commercial": False, "returned": False,
+    "dangerous": False, "perishable": True, "invoice": "i-1", "invoiceImage": "AAH/",
+    "license": "l-1", "certificate": "", "signedBy": "Ada",
+    "signed": "2026-12-01T05:30:00.5Z", "remarks": [],
+}
+OPTIONAL = [
+    "exporterAddress", "importerAddress", "tariff", "dutyCents", "taxCents", "insuredCents",
+    "invoice", "invoiceImage", "license", "certificate", "remarks",
+]
+MOMENTS = [
+    "1970-01-01T00:00:00Z", "0001-01-01T00:00:00Z", "9999-12-30T22:00:00Z",
+    "2024-02-29T23:59:59.999999999Z", "2026-12-01T05:30:00+05:30",
+]
+NO_MOMENTS = [
+    "", "yesterday", "2026-12-01", "2026-12-01T05:30:00", "2026-13-01T00:00:00Z",
+    "2026-02-29T00:00:00Z", "2026-12-01T24:00:00Z", "2026-12-01T05:30:00Z ", "1764567000",
+]
+
+
+def declaration_row(name: str, value: Json, outcome: str) -> Row:
+    return Row(name, payload(value), outcome, "declaration")
+
+
+def declaration_rows() -> Iterable[Row]:
+    """A declaration, and it without each of its members."""
+    yield declaration_row("a declaration", DECLARATION, printed(DECLARATION))
+    backwards = dict(reversed(list(DECLARATION.items())))
+    yield declaration_row("a declaration from behind", backwards, printed(DECLARATION))
+    for name in DECLARATION:
+        fewer = {key: value for key, value in DECLARATION.items() if key != name}
+        outcome = printed(fewer) if name in OPTIONAL else "Missing"
+        yield declaration_row(f"a declaration without {name}", fewer, outcome)
+
+
+def moment_rows() -> Iterable[Row]:
+    """Texts that spell a moment, and others."""
+    for text in MOMENTS:
+        value = {**DECLARATION, "signed": text}
+        yield declaration_row(f"signed {text!r}", value, printed(value))
+    for text in NO_MOMENTS:
+        yield declaration_row(f"signed {text!r}", {**DECLARATION, "signed": text}, "Misspelled")
+    yield declaration_row("signed 0", {**DECLARATION, "signed": 0}, "WrongType")
+
+
+# ---- errors with members of their own
+
+def refusal_rows() -> Iterable[Row]:
+    """An error's details, and bodies that are none: the error is told all the same, without them."""
+    limit = {"grams": 2000, "wait": 60}
+    for name, body, outcome in [
+            ("a refusal", payload(limit), printed(limit)),
+            ("a refusal without wait", payload({"grams": 2000}), printed({"grams": 2000})),
+            ("a refusal without grams", payload({"wait": 60}), "null"),
+            ("a refusal whose grams are out of range", payload({"grams": 2**32}), "null"),
+            ("a refusal with another member", payload({**limit, "code": 7}), printed(limit)),
+            ("a refusal that is null", b"null", "null"),
+            ("a refusal without a body", b"", "null"),
+            ("a refusal as HTML", b"<html><body>413</body></html>", "null"),
+            ("a refusal that is no UTF-8", b"\xff", "null")]:
+        yield Row(name, body, outcome, "refusal")
+
+
 def table() -> List[Row]:
     makers = (
         absent_rows, wrong_rows, doubled_rows, bound_rows, spelled_rows, inner_rows, text_rows,
+        declaration_rows, moment_rows, refusal_rows,
     )
     return [row for make in makers for row in make()]
 
@@ -234,20 +310,59 @@ def random_shipment(draw: random.Random) -> Json:
     }
 
 
+def random_moment(draw: random.Random) -> str:
+    at = datetime(1, 1, 2) + timedelta(microseconds=draw.randrange(300_000_000_000_000_000))
+    offset = draw.choice(["Z", "+00:00", "-09:30", "+14:00"])
+    return at.isoformat(timespec=draw.choice(["seconds", "milliseconds", "microseconds"])) + offset
+
+
+def random_declaration(draw: random.Random) -> Json:
+    """A declaration with other values of the same types, and some of its optional members."""
+    declaration: Json = {}
+    for name, value in DECLARATION.items():
+        if name in OPTIONAL and draw.random() < 0.4:
+            continue
+        if name == "signed":
+            declaration[name] = random_moment(draw)
+        elif name in ("invoiceImage", "certificate"):
+            declaration[name] = base64.b64encode(draw.randbytes(draw.randrange(40))).decode()
+        elif isinstance(value, bool):
+            declaration[name] = draw.random() < 0.5
+        elif isinstance(value, int):
+            declaration[name] = random_number(draw, BOUNDS["u32"])
+        elif isinstance(value, list):
+            declaration[name] = [random_text(draw) for _ in range(draw.randrange(4))]
+        elif isinstance(value, dict):
+            declaration[name] = random_address(draw)
+        else:
+            declaration[name] = random_text(draw)
+    return declaration
+
+
+def shuffled(draw: random.Random, value: Json, unknown: str) -> bytes:
+    """The value's text with its members in any order, and one of a name that isn't known."""
+    given = list(value.items()) + [(unknown, [{}])]
+    draw.shuffle(given)
+    return json.dumps(dict(given), ensure_ascii=draw.random() < 0.5).encode()
+
+
 def random_rows() -> Iterable[Row]:
     draw = random.Random(56)
     for number in range(VALUES):
         shipment = random_shipment(draw)
-        given = list(shipment.items()) + [(f"unknown{number}", [{}])]
-        draw.shuffle(given)
-        text = json.dumps(dict(given), ensure_ascii=draw.random() < 0.5)
-        yield Row(f"value {number}", text.encode(), printed(with_default(shipment)))
+        text = shuffled(draw, shipment, f"unknown{number}")
+        yield Row(f"shipment {number}", text, printed(with_default(shipment)))
+        declaration = random_declaration(draw)
+        text = shuffled(draw, declaration, f"unknown{number}")
+        yield Row(f"declaration {number}", text, printed(declaration), "declaration")
 
 
 # ---- the checks
 
 def lines(rows: Iterable[Row]) -> bytes:
-    return b"".join(row.name.encode() + b"\t" + row.payload + b"\n" for row in rows)
+    return b"".join(
+        b"%s\t%s\t%s\n" % (row.structure.encode(), row.name.encode(), row.payload) for row in rows
+    )
 
 
 def wanted(rows: Iterable[Row]) -> bytes:
@@ -271,4 +386,4 @@ class PayloadTest(unittest.TestCase):
         for row, line in zip(rows, ran.stdout.decode().split("\n")):
             with self.subTest(row.name):
                 self.assertEqual(line, f"{row.name}\t{row.outcome}")
-        self.assertEqual(ran.stdout.count(b"\n"), VALUES)
+        self.assertEqual(ran.stdout.count(b"\n"), len(rows))

@@ -1,3 +1,6 @@
 mod Entries
+mod DetailLemmas
+mod ErrorLemmas
+mod MomentLemmas
 mod ReadLists
 mod Texts

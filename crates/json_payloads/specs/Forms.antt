@@ -32,14 +32,31 @@ both_fit false b e = absurd (true≢false (sym e))
 
 -- a text
 abbrev pub text : Form (List ℕ)
-text = record { prints = string; reads = as_str; fits = λ s. true; levels = 0; read_back = λ s fit. refl; not_null = λ s. refl; shallow = λ s. le_refl 0 }
+text = record {
+  prints = string;
+  reads = as_str;
+  fits = λ s. true;
+  levels = 0;
+  read_back = λ s fit. refl;
+  not_null = λ s. refl;
+  shallow = λ s. le_refl 0;
+}
 
 -- true or false
 abbrev pub truth : Form Bool
-truth = record { prints = boolean; reads = as_bool; fits = λ b. true; levels = 0; read_back = λ b fit. refl; not_null = λ b. refl; shallow = λ b. le_refl 0 }
+truth = record {
+  prints = boolean;
+  reads = as_bool;
+  fits = λ b. true;
+  levels = 0;
+  read_back = λ b fit. refl;
+  not_null = λ b. refl;
+  shallow = λ b. le_refl 0;
+}
 
 -- a value that stands as its name
-abbrev pub name_form : {X : Type 0} → (name : X → List ℕ) (of_name : List ℕ → Option X) → ((x : X) → of_name (name x) ≡ Some x) → Form X
+abbrev pub name_form : {X : Type 0} → (name : X → List ℕ) (of_name : List ℕ → Option X) →
+    ((x : X) → of_name (name x) ≡ Some x) → Form X
 name_form name of_name same = record {
   prints = λ x. string (name x);
   reads = λ d. as_str d >>= of_name;
@@ -57,7 +74,9 @@ mapped {X} {Y} f to from same = record {
   reads = λ d. f.reads d >>= λ y. Some (from y);
   fits = λ x. f.fits (to x);
   levels = f.levels;
-  read_back = λ x fit. ap (λ (o : Option Y). o >>= λ y. Some (from y)) (f.read_back (to x) fit) ∙ ap (λ (z : X). Some z) (same x);
+  read_back =
+      λ x fit.
+      ap (λ (o : Option Y). o >>= λ y. Some (from y)) (f.read_back (to x) fit) ∙ ap (λ (z : X). Some z) (same x);
   not_null = λ x. f.not_null (to x);
   shallow = λ x. f.shallow (to x);
 }
@@ -76,4 +95,6 @@ option_fits fits (Some x) = fits x
 -- what stands for a value isn't read as null
 pub present_back : {X : Type 0} (f : Form X) (x : X) → f.fits x ≡ true → present_at f (f.prints x) ≡ Some (Some x)
 unfolding present_at
-present_back {X} f x fit = ap (λ (b : Bool). if b then Some None else option_map Some (f.reads (f.prints x))) (f.not_null x) ∙ ap (option_map (λ (y : X). Some y)) (f.read_back x fit)
+present_back {X} f x fit =
+    ap (λ (b : Bool). if b then Some None else option_map Some (f.reads (f.prints x))) (f.not_null x)
+    ∙ ap (option_map (λ (y : X). Some y)) (f.read_back x fit)

@@ -11,4 +11,7 @@ pub mod Members
 pub mod Making
 pub mod Unions
 pub mod Times
+pub mod Moments
 pub mod Payloads
+pub mod Details
+pub mod Errors

@@ -19,7 +19,8 @@ abbrev pub items_at : {X : Type 0} → (Data → Option X) → Data → Option (
 items_at f d = as_array d >>= list_of f
 
 -- a list of what is read back is read back
-pub list_back : {X : Type 0} (prints : X → Data) (reads : Data → Option X) (fits : X → Bool) → ((x : X) → fits x ≡ true → reads (prints x) ≡ Some x) → (xs : List X) → list_all fits xs ≡ true
+pub list_back : {X : Type 0} (prints : X → Data) (reads : Data → Option X) (fits : X → Bool) →
+    ((x : X) → fits x ≡ true → reads (prints x) ≡ Some x) → (xs : List X) → list_all fits xs ≡ true
     → list_of reads (items_of (map prints xs)) ≡ Some xs
 unfolding list_of
 list_back prints reads fits back [] fit = refl
@@ -29,7 +30,8 @@ list_back {X} prints reads fits back (x ∷ xs) fit =
     ∙ ap (λ (o : Option (List X)). o >>= λ ys. Some (x ∷ ys)) (list_back prints reads fits back xs each.1)
 
 -- a list nests one level deeper than its items
-pub list_shallow : {X : Type 0} (prints : X → Data) (levels : ℕ) → ((x : X) → depth (prints x) ≤ levels) → (xs : List X) → items_depth (items_of (map prints xs)) ≤ levels
+pub list_shallow : {X : Type 0} (prints : X → Data) (levels : ℕ) → ((x : X) → depth (prints x) ≤ levels) →
+    (xs : List X) → items_depth (items_of (map prints xs)) ≤ levels
 list_shallow prints levels shallow [] = zero-le
 list_shallow prints levels shallow (x ∷ xs) = max-le (shallow x) (list_shallow prints levels shallow xs)
 
@@ -52,11 +54,14 @@ abbrev pub null_or : {X : Type 0} → (X → Data) → Option X → Data
 null_or prints None = null
 null_or prints (Some x) = prints x
 
-pub sparse_back : {X : Type 0} (f : Form X) (o : Option X) → option_fits f.fits o ≡ true → present_at f (null_or f.prints o) ≡ Some o
+-- an item that fits is read back, and null as an absent one
+pub sparse_back : {X : Type 0} (f : Form X) (o : Option X) → option_fits f.fits o ≡ true →
+    present_at f (null_or f.prints o) ≡ Some o
 unfolding present_at
 sparse_back f None fit = refl
 sparse_back f (Some x) fit = present_back f x fit
 
+-- null nests no deeper than a value
 pub sparse_shallow : {X : Type 0} (f : Form X) (o : Option X) → depth (null_or f.prints o) ≤ f.levels
 sparse_shallow f None = zero-le
 sparse_shallow f (Some x) = f.shallow x

@@ -1,5 +1,6 @@
 -- Integers.
-use Rattle.std.specs.Prelude.{◌≡◌, ℕ, ◌^◌, ℤ, pos, negsuc, Bool, true, ◌&&◌, nat_lt, Option, Some, None, option_and_then, if◌then◌else◌}
+use Rattle.std.specs.Prelude.{◌≡◌, ℕ, ◌^◌, ℤ, pos, negsuc, Bool, true, ◌&&◌, nat_lt, Option, Some, None}
+use Rattle.std.specs.Prelude.{option_and_then, if◌then◌else◌}
 use Rattle.std.proofs.Common.{refl, ap, ◌∙◌}
 use Rattle.std.proofs.Math.Nat.{le_refl}
 use Rattle.serde_json.specs.Data.{Data, number, unsigned}
@@ -13,7 +14,15 @@ unsigned_at d = option_and_then as_u64 (as_number d)
 
 -- a whole number
 abbrev pub whole_number : Form ℕ
-whole_number = record { prints = λ n. number (unsigned n); reads = unsigned_at; fits = λ n. true; levels = 0; read_back = λ n fit. refl; not_null = λ n. refl; shallow = λ n. le_refl 0 }
+whole_number = record {
+  prints = λ n. number (unsigned n);
+  reads = unsigned_at;
+  fits = λ n. true;
+  levels = 0;
+  read_back = λ n fit. refl;
+  not_null = λ n. refl;
+  shallow = λ n. le_refl 0;
+}
 
 -- the number, where it is below the bound
 abbrev pub under : ℕ → ℕ → Option ℕ
@@ -46,6 +55,7 @@ is_within bound (negsuc n) = nat_lt n bound
 abbrev pub within : ℕ → ℤ → Option ℤ
 within bound z = if is_within bound z then Some z else None
 
+-- a number of 64 bits is read back
 pub signed_back : (z : ℤ) → is_within (2 ^ 63) z ≡ true → as_i64 (of_integer z) ≡ Some z
 signed_back (pos n) fit = ap (λ (b : Bool). if b then Some (pos n) else None) fit
 signed_back (negsuc n) fit = refl
@@ -62,10 +72,13 @@ integer = record {
   shallow = λ z. le_refl 0;
 }
 
-pub within_back : (bound : ℕ) (z : ℤ) → (is_within (2 ^ 63) z && is_within bound z) ≡ true → (as_i64 (of_integer z) >>= within bound) ≡ Some z
+-- a number within the bound is read back
+pub within_back : (bound : ℕ) (z : ℤ) → (is_within (2 ^ 63) z && is_within bound z) ≡ true →
+    (as_i64 (of_integer z) >>= within bound) ≡ Some z
 within_back bound z fit =
     let each = both_fit (is_within (2 ^ 63) z) (is_within bound z) fit in
-    ap (λ (o : Option ℤ). o >>= within bound) (signed_back z each.0) ∙ ap (λ (b : Bool). if b then Some z else None) each.1
+    ap (λ (o : Option ℤ). o >>= within bound) (signed_back z each.0)
+    ∙ ap (λ (b : Bool). if b then Some z else None) each.1
 
 -- a whole number with a sign, within a bound
 abbrev pub integer_within : ℕ → Form ℤ

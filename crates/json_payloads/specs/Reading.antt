@@ -3,8 +3,8 @@ use Rattle.std.specs.Prelude.{◌≡◌, Option, Some, None, Result, Ok, Err}
 use Rattle.json_payloads.specs.declared.reading.ReadError.{ReadError}
 use Rattle.json_payloads.specs.declared.reading.ReadError.TheVariants.{Memory, Refused}
 
--- the first reading, and of its value the second
 infixl 10 ◌>>=◌
+-- the first reading, and of its value the second
 abbrev pub ◌>>=◌ : {A B : Type 0} → Option A → (A → Option B) → Option B
 (Some x) >>= f = f x
 None >>= f = None

@@ -21,7 +21,8 @@ pub record Cases (A : Type 0) : Type 0 where
   pub fits : A → Bool
   pub levels : ℕ
   pub named : (a : A) → is_among (name a) names ≡ true
-  pub read_back : (a : A) → fits a ≡ true → distinct names ≡ true → reads (object (put (name a) (prints a) no_members)) ≡ Some a
+  pub read_back : (a : A) → fits a ≡ true → distinct names ≡ true →
+      reads (object (put (name a) (prints a) no_members)) ≡ Some a
   pub shallow : (a : A) → depth (prints a) ≤ levels
 
 -- the first case
@@ -49,12 +50,18 @@ abbrev pub chosen : {A B C : Type 0} → (A → C) → (B → C) → Case A B �
 chosen f g (This a) = f a
 chosen f g (Other b) = g b
 
-pub cases_named : {A B : Type 0} (k : List ℕ) (cs : Cases B) (x : Case A B) → is_among (case_name {A = A} k cs.name x) (k ∷ cs.names) ≡ true
+-- the name of a value is one of the names of the cases
+pub cases_named : {A B : Type 0} (k : List ℕ) (cs : Cases B) (x : Case A B) →
+    is_among (case_name {A = A} k cs.name x) (k ∷ cs.names) ≡ true
 cases_named k cs (This a) = among_first k cs.names
 cases_named k cs (Other b) = among_more (cs.name b) k cs.names (cs.named b)
 
-pub cases_back : {A B : Type 0} (k : List ℕ) (f : Form A) (cs : Cases B) (x : Case A B) → chosen f.fits cs.fits x ≡ true → distinct (k ∷ cs.names) ≡ true
-    → case_at f.reads (cs.reads (object (put (case_name {A = A} k cs.name x) (chosen f.prints cs.prints x) no_members))) (get_member k (put (case_name {A = A} k cs.name x) (chosen f.prints cs.prints x) no_members)) ≡ Some x
+-- a value of the first case is read back, and one of a later case is
+pub cases_back : {A B : Type 0} (k : List ℕ) (f : Form A) (cs : Cases B) (x : Case A B) →
+    chosen f.fits cs.fits x ≡ true → distinct (k ∷ cs.names) ≡ true
+    → case_at f.reads (cs.reads (object (put (case_name {A = A} k cs.name x) (chosen f.prints cs.prints x) no_members)))
+    (get_member k (put (case_name {A = A} k cs.name x) (chosen f.prints cs.prints x) no_members))
+    ≡ Some x
 unfolding case_at
 cases_back {A} {B} k f cs (This a) fit each =
     let rest = cs.reads (object (put k (f.prints a) no_members)) in
@@ -64,10 +71,13 @@ cases_back {A} {B} k f cs (This a) fit each =
 cases_back {A} {B} k f cs (Other b) fit each =
     let apart = of_distinct k cs.names each in
     ap (case_at f.reads (cs.reads (object (put (cs.name b) (cs.prints b) no_members))))
-    (get_member-put_other k (cs.name b) (cs.prints b) no_members (λ (same : k ≡ cs.name b). other_name (cs.name b) k cs.names apart.0 (cs.named b) (sym same)))
+    (get_member-put_other k (cs.name b) (cs.prints b) no_members
+    (λ (same : k ≡ cs.name b). other_name (cs.name b) k cs.names apart.0 (cs.named b) (sym same)))
     ∙ ap (right {A = A}) (cs.read_back b fit apart.1)
 
-pub cases_shallow : {A B : Type 0} (f : Form A) (cs : Cases B) (x : Case A B) → depth (chosen f.prints cs.prints x) ≤ max f.levels cs.levels
+-- cases nest no deeper than the deepest of them
+pub cases_shallow : {A B : Type 0} (f : Form A) (cs : Cases B) (x : Case A B) →
+    depth (chosen f.prints cs.prints x) ≤ max f.levels cs.levels
 cases_shallow f cs (This a) = le_trans (f.shallow a) (le-max_left f.levels cs.levels)
 cases_shallow f cs (Other b) = le_trans (cs.shallow b) (le-max_right f.levels cs.levels)
 
@@ -85,8 +95,8 @@ no_case = record {
   shallow = λ a. elim a [ ];
 }
 
--- a case under its name, and the others
 infixr 5 ◌⊕◌
+-- a case under its name, and the others
 abbrev pub ◌⊕◌ : {A B : Type 0} → List ℕ × Form A → Cases B → Cases (Case A B)
 m ⊕ cs = record {
   names = m.0 ∷ cs.names;
@@ -101,13 +111,17 @@ m ⊕ cs = record {
 }
 
 -- an object with a member of one of these cases
-abbrev pub union_form : {X Y : Type 0} → (cs : Cases Y) → distinct cs.names ≡ true → (to : X → Y) (from : Y → X) → ((x : X) → from (to x) ≡ x) → Form X
+abbrev pub union_form : {X Y : Type 0} → (cs : Cases Y) → distinct cs.names ≡ true → (to : X → Y) (from : Y → X) →
+    ((x : X) → from (to x) ≡ x) → Form X
 union_form {X} {Y} cs each to from same = record {
   prints = λ x. object (put (cs.name (to x)) (cs.prints (to x)) no_members);
   reads = λ d. cs.reads d >>= λ y. Some (from y);
   fits = λ x. cs.fits (to x);
   levels = suc cs.levels;
-  read_back = λ x fit. ap (λ (o : Option Y). o >>= λ y. Some (from y)) (cs.read_back (to x) fit each) ∙ ap (λ (z : X). Some z) (same x);
+  read_back =
+      λ x fit.
+      ap (λ (o : Option Y). o >>= λ y. Some (from y)) (cs.read_back (to x) fit each)
+      ∙ ap (λ (z : X). Some z) (same x);
   not_null = λ x. refl;
   shallow = λ x. suc-le-suc (max-le (cs.shallow (to x)) zero-le);
 }

@@ -2,8 +2,8 @@
 ghost use Rattle.std.specs.Prelude.{◌≡◌};
 
 use crate::{JsonForm, json_payload, read_json};
-use smithy_types::{OutOfMemory, Payload, Wire};
-use std::alloc::Global;
+use smithy_types::{OutOfMemory, Payload, Text, Wire};
+use std::alloc::{AllocError, Global};
 use std::marker::Model;
 
 /// A type whose values may be whole payloads.
@@ -13,6 +13,12 @@ pub trait JsonPayload: JsonForm {
 
     /// Its values nest no deeper than a reader goes. Where the form is a table, `refl` shows it.
     ghost nests: { nat_le Self.form.levels max_depth ≡ true };
+}
+
+impl JsonPayload for Text {
+    ghost use Rattle.std.specs.Prelude.{refl};
+
+    ghost nests = { refl };
 }
 
 /// A value whose payload is of this kind, and is its JSON.
@@ -48,6 +54,16 @@ impl<T, const KIND: u32> Json<T, KIND> {
     {
         let Json { value } = self;
         value
+    }
+}
+
+impl<T: Clone, const KIND: u32> Clone for Json<T, KIND> {
+    ghost is_clone = { λ json copy. T.is_clone json copy };
+
+    fn clone(&self) -> Result<Json<T, KIND>, AllocError> {
+        Ok(Json {
+            value: self.value.clone()?,
+        })
     }
 }
 

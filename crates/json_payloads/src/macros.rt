@@ -1,7 +1,9 @@
 //! What the two functions of a structure's form are written by.
 
 /// The object that a structure is printed as, a member a line:
-/// `print_object!(alloc, "name" => &self.name, "weight" => &self.weight)`.
+/// `print_object!(alloc, "name" => &self.name, "weight" => &self.weight)`. It is one call, which is
+/// dear to prove with more than sixteen members: then write `begin_object`, `add_members` and
+/// `end_object` out.
 #[macro_export]
 macro_rules! print_object {
     ($alloc:expr, $($name:literal => $value:expr),+ $(,)?) => {

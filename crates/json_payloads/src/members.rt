@@ -48,6 +48,7 @@ impl<T: JsonForm> JsonMember for T {
         read_required(alloc, object, name)
     }
 
+    #[tactic(auto, unfolding(crate::specs::Placed::put_some))]
     fn put_member(&self, object: &mut Object, name: &str) -> Result<(), OutOfMemory> {
         object.put(name, self)
     }

@@ -3,7 +3,7 @@ ghost use Rattle.std.specs.Prelude.{◌≡◌, true, OnOk, option_map};
 ghost use Rattle.serde_json.specs.Data.{object, no_members, put};
 ghost use Rattle.serde_json.specs.View.{view};
 ghost use Rattle.json_payloads.specs.Forms.{option_fits};
-ghost use Rattle.json_payloads.specs.Making.{members_in};
+ghost use Rattle.json_payloads.specs.Making.{fits_of, members_in};
 ghost use Rattle.json_payloads.specs.Objects.{object_at};
 ghost use Rattle.json_payloads.specs.Placed.{put_some};
 ghost use Rattle.json_payloads.specs.Reading.{Gives};
@@ -43,6 +43,7 @@ impl Object {
     }
 
     /// Adds a member where there is a value. `OutOfMemory` where there is no memory for it.
+    #[tactic(auto, unfolding(crate::specs::Placed::put_some))]
     pub fn put_optional<T: JsonForm>(
         &mut self,
         name: &str,
@@ -59,8 +60,10 @@ impl Object {
     }
 
     /// The object. It takes no memory.
+    #[tactic(auto, unfolding(crate::specs::Making::fits_of))]
     pub fn finish(self) -> Value
-        ensures { view result ≡ object (members_in self) }
+        ensures value { view result ≡ object (members_in self) }
+        ensures fits { fits_of self ≡ true }
     {
         Value::Object(self.members)
     }

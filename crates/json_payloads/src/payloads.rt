@@ -29,7 +29,7 @@ pub fn json_payload<T: JsonForm>(
 
 // The bytes of the text that the value prints as.
 #[tactic(auto, using(crate::proofs::Texts::its_data), unfolding(crate::specs::Payloads::data_of_bytes))]
-fn bytes_of(alloc: Global, value: &Value) -> Result<Blob, OutOfMemory>
+pub(crate) fn bytes_of(alloc: Global, value: &Value) -> Result<Blob, OutOfMemory>
     ensures { IfOk result (λ b. depth (view value.now) ≤ max_depth
         → data_of_bytes b ≡ Some (view value.now)) }
 {
@@ -73,7 +73,7 @@ pub fn read_payload<T: JsonForm>(
 
 // The value whose text the bytes are.
 #[tactic(auto, using(crate::proofs::Texts::by_utf8), unfolding(crate::specs::Payloads::data_of_bytes))]
-fn read_bytes(alloc: Global, bytes: &[u8]) -> Result<Value, ReadError>
+pub(crate) fn read_bytes(alloc: Global, bytes: &[u8]) -> Result<Value, ReadError>
     ensures { Gives view result (data_of_bytes bytes.now) }
 {
     match str::from_utf8(bytes) {
@@ -84,6 +84,7 @@ fn read_bytes(alloc: Global, bytes: &[u8]) -> Result<Value, ReadError>
 
 /// The payload of an error with a message, or with none. `OutOfMemory` where there is no memory
 /// for it.
+#[tactic(auto, unfolding(crate::specs::Placed::put_some))]
 pub fn message_payload(
     alloc: Global,
     kind: u32,

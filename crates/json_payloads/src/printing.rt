@@ -1,7 +1,8 @@
-//! The members of a value that is printed, all at once.
-ghost use Rattle.std.specs.Prelude.{◌≡◌, true, IfOk, map};
-ghost use Rattle.serde_json.specs.Data.{object, no_members};
+//! The members of a value that is printed, several at once.
+ghost use Rattle.std.specs.Prelude.{◌≡◌, true, IfOk, OnOk, map};
+ghost use Rattle.serde_json.specs.Data.{Members, no_members, object};
 ghost use Rattle.serde_json.specs.View.{view};
+ghost use Rattle.json_payloads.specs.Making.{fits_of, members_in};
 
 use crate::members::{first_of, rest_of};
 use crate::{JsonMember, Object, Value};
@@ -10,8 +11,8 @@ use std::alloc::Global;
 
 /// The members of a value, by reference, as pairs: the first, and the others.
 pub trait PrintedMembers {
-    ghost use Rattle.std.specs.Prelude.{◌≡◌, true, OnOk, List, ℕ, map};
-    ghost use Rattle.json_payloads.specs.Making.{members_in};
+    ghost use Rattle.std.specs.Prelude.{◌≡◌, OnOk, List, ℕ, map};
+    ghost use Rattle.json_payloads.specs.Making.{fits_of, members_in};
     ghost use Rattle.json_payloads.specs.Objects.{Fields};
 
     /// What the members are, by value.
@@ -28,8 +29,9 @@ pub trait PrintedMembers {
         ensures members { OnOk result (members_in object.new
             ≡ (Self.fields (map (λ n. n.now) names.now)).put_in (Self.values self.now)
             (members_in object.old)) }
-        ensures fits { OnOk result
-            ((Self.fields (map (λ n. n.now) names.now)).fits (Self.values self.now) ≡ true) };
+        ensures fits { OnOk result (fits_of object.new
+            ≡ (Self.fields (map (λ n. n.now) names.now)).fits (Self.values self.now)
+            (fits_of object.old)) };
 }
 
 impl PrintedMembers for () {
@@ -56,6 +58,7 @@ impl<'a, A: JsonMember, R: PrintedMembers> PrintedMembers for (&'a A, R) {
 
     ghost fields = { λ names. (first_of names, A.member) ⊗ R.fields (rest_of names) };
 
+    #[tactic(auto, unfolding(crate::specs::Making::fits_of))]
     fn put_members(&self, object: &mut Object, names: &[&str]) -> Result<(), OutOfMemory> {
         let (value, rest) = self;
         value.put_member(object, first_of(names))?;
@@ -63,8 +66,9 @@ impl<'a, A: JsonMember, R: PrintedMembers> PrintedMembers for (&'a A, R) {
     }
 }
 
-/// An object with these members under these names, as `print_object!` writes them. `OutOfMemory`
-/// where there is no memory for it.
+/// An object with these members under these names, as `print_object!` writes it for a few members.
+/// `OutOfMemory` where there is no memory for it.
+#[tactic(auto, unfolding(crate::specs::Making::fits_of))]
 pub fn print_members<F: PrintedMembers>(
     alloc: Global,
     names: &[&str],
@@ -73,9 +77,64 @@ pub fn print_members<F: PrintedMembers>(
     ensures value { IfOk result (λ v. view v ≡ object
         ((F.fields (map (λ n. n.now) names.now)).put_in (F.values members.now) no_members)) }
     ensures fits { IfOk result (λ _.
-        (F.fields (map (λ n. n.now) names.now)).fits (F.values members.now) ≡ true) }
+        (F.fields (map (λ n. n.now) names.now)).fits (F.values members.now) true ≡ true) }
 {
     let mut object = Object::new(alloc);
+    members.put_members(&mut object, names)?;
+    Ok(object.finish())
+}
+
+/// The object that many members are put into, with the first of them. `OutOfMemory` where there is
+/// no memory for it.
+#[tactic(auto, unfolding(crate::specs::Making::fits_of))]
+pub fn begin_object<F: PrintedMembers>(
+    alloc: Global,
+    names: &[&str],
+    members: &F,
+) -> Result<Object, OutOfMemory>
+    ensures members { IfOk result (λ o. members_in o
+        ≡ (F.fields (map (λ n. n.now) names.now)).put_in (F.values members.now) no_members) }
+    ensures fits { IfOk result (λ o. fits_of o
+        ≡ (F.fields (map (λ n. n.now) names.now)).fits (F.values members.now) true) }
+{
+    let mut object = Object::new(alloc);
+    members.put_members(&mut object, names)?;
+    Ok(object)
+}
+
+/// Adds members to an object, behind those that stood there before, however these are told.
+/// `OutOfMemory` where there is no memory for them.
+pub fn add_members<F: PrintedMembers>(
+    object: &mut Object,
+    names: &[&str],
+    members: &F,
+) -> Result<(), OutOfMemory>
+    ensures members { OnOk result ((before : Members) → members_in object.old ≡ before
+        → members_in object.new
+        ≡ (F.fields (map (λ n. n.now) names.now)).put_in (F.values members.now) before) }
+    ensures fits { OnOk result (fits_of object.new
+        ≡ (F.fields (map (λ n. n.now) names.now)).fits (F.values members.now)
+        (fits_of object.old)) }
+{
+    members.put_members(object, names)?;
+    Ok(())
+}
+
+/// The object with the last of its members, behind those that stood there before, however these are
+/// told. `OutOfMemory` where there is no memory for them.
+#[tactic(auto, unfolding(crate::specs::Making::fits_of))]
+pub fn end_object<F: PrintedMembers>(
+    made: Object,
+    names: &[&str],
+    members: &F,
+) -> Result<Value, OutOfMemory>
+    ensures value { IfOk result (λ v. (before : Members) → members_in made ≡ before
+        → view v ≡ object
+        ((F.fields (map (λ n. n.now) names.now)).put_in (F.values members.now) before)) }
+    ensures fits { IfOk result (λ _. (F.fields (map (λ n. n.now) names.now)).fits
+        (F.values members.now) (fits_of made) ≡ true) }
+{
+    let mut object = made;
     members.put_members(&mut object, names)?;
     Ok(object.finish())
 }
