@@ -4,10 +4,10 @@
 
 use anyhow::Result;
 use client_builder::{OperationBuilder, added, refusal_of};
+use client_operations::{bearer_id, signing_by, steady_retry, taken_apart, without_facts};
 use client_retries::TakeOffer;
 use example_bakery_client::{
-    BakeryBuilder, BakeryClient, BakeryOperation, Ending, GetOrder, Watch, bearer_id, invoke,
-    retry, signing_by, taken_apart, wait,
+    BakeryBuilder, BakeryClient, BakeryOperation, Ending, GetOrder, Watch, invoke, wait,
 };
 use example_bakery_service::{
     BakeryDeserializer, BakerySerializer, ClientNameInterceptor, ERROR, GET_ORDER_OUTPUT,
@@ -86,7 +86,7 @@ fn place_order<X: Outside + Drop, Q: Quota + Drop>(
         .sleep_impl()
         .time_source()
         .endpoint_url(Text::from_static(URL))
-        .standard_retry(retry())
+        .standard_retry(steady_retry())
         .timeout_config(TimeoutConfig::disabled())
         .own_serializer(posting_to("/place-order"))
         .own_deserializer(reading(PLACE_ORDER_OUTPUT))
@@ -101,12 +101,6 @@ fn place_order<X: Outside + Drop, Q: Quota + Drop>(
         Ok((operation, client)) => place(rt, operation, client),
         Err(back) => Err(refusal_of(back).into()),
     }
-}
-
-// The same value, without the facts that are known of it: of a builder nothing is known then, and
-// no goal behind its setters computes on the parts of the empty one.
-fn without_facts<T>(value: T) -> T {
-    value
 }
 
 // Posts inputs to this path.
@@ -152,7 +146,7 @@ fn get_order<Q: Quota + Drop>(
         .sleep_impl()
         .time_source()
         .endpoint_url(Text::from_static(URL))
-        .standard_retry(retry())
+        .standard_retry(steady_retry())
         .timeout_config(TimeoutConfig::disabled())
         .own_serializer(posting_to("/get-order"))
         .own_deserializer(reading(GET_ORDER_OUTPUT))

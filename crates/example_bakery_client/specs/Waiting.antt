@@ -1,12 +1,9 @@
 -- What a watch of an order makes of a waiter's calls, and what a poll of it means.
-use Rattle.std.specs.Prelude.{◌≡◌, ◌↔◌, ℕ, true, false, IsSome, IsTrue, Option, List, [], ◌∷◌, Result, Ok, Err, Some}
-use Rattle.std.specs.Prelude.{MatchResult, codes}
+use Rattle.std.specs.Prelude.{◌≡◌, ◌↔◌, ℕ, true, false, IsSome, IsTrue, Option, List, [], ◌∷◌, Result, Ok, MatchResult}
 use Rattle.std.specs.Borrow.{Bor}
 use Rattle.std.proofs.Common.{ap}
 use Rattle.smithy_types.specs.declared.acceptor.AcceptorState.{AcceptorState}
 use Rattle.smithy_types.specs.declared.acceptor.AcceptorState.TheVariants.{Success, Failure, Retry}
-use Rattle.smithy_types.specs.declared.fault.FaultKind.TheVariants.{Other}
-use Rattle.smithy_types.specs.declared.fault.SdkError.TheVariants.{DispatchFailure}
 use Rattle.smithy_types.specs.Chain.{Chained}
 use Rattle.smithy_types.specs.Starting.{is_started}
 use Rattle.smithy_types.specs.declared.timers.TimersCall.{TimersCall}
@@ -18,9 +15,9 @@ use Rattle.example_bakery_service.specs.declared.model.GetOrderInput.{GetOrderIn
 use Rattle.example_bakery_service.specs.declared.model.GetOrderOutput.{GetOrderOutput}
 use Rattle.example_bakery_service.specs.declared.model.OrderState.{OrderState}
 use Rattle.example_bakery_service.specs.declared.model.OrderState.TheVariants.{Baking, Ready}
+use Rattle.client_operations.specs.Polling.{told}
 use Rattle.orchestrate.specs.Answered.{InputAnswered}
 use Rattle.orchestrate.specs.declared.execution.InvokeError.{InvokeError}
-use Rattle.orchestrate.specs.declared.execution.InvokeError.TheVariants as invoked
 use Rattle.outside.specs.Calls as calls
 use Rattle.outside.specs.Calls.{OutsideCall}
 use Rattle.run_grammar.specs.declared.answer.Entry.{Entry}
@@ -44,16 +41,6 @@ accepted Ready = Success
 -- an order that bakes is asked for again, and an error of the model ends the wait
 abbrev pub Says : Result (Bor GetOrderOutput) (Bor BakeryError) → AcceptorState → Type 0
 Says seen state = MatchResult seen (λ output. state ≡ accepted output.now.state) (λ error. state ≡ Failure)
-
--- an invocation's answer as that of a poll: what is no SdkError is told as a failed dispatch
-abbrev pub told : Result GetOrderOutput (InvokeError BakeryError) → Answer GetOrderOutput BakeryError
-told (Ok output) = Ok (Some (Ok output))
-told (Err (invoked.Sdk error)) = Ok (Some (Err error))
-told (Err invoked.Unfinished) =
-    Ok (Some (Err (DispatchFailure (record { kind = Other; text = codes "the fuel is used up" }))))
-told (Err (invoked.WrongType payload)) =
-    Ok (Some (Err (DispatchFailure (record { kind = Other; text = codes "an answer of another kind" }))))
-told (Err invoked.OutOfMemory) = Err (record {})
 
 -- an invocation of `GetOrder` for this order answers so, and its log grows so
 abbrev pub Invokes : GetOrderInput → Result GetOrderOutput (InvokeError BakeryError) → List Entry → List Entry → Type 0

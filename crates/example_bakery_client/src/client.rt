@@ -2,20 +2,14 @@
 //! of it, Q the quota that retries are paid from, C a classifier of retries and I an interceptor.
 ghost use Rattle.std.specs.List.{AllByRecursion};
 ghost use Rattle.std.specs.Prelude.{◌≡◌, ◌++◌, List, true};
-ghost use Rattle.client_auth.specs.Identities.{ending_choice};
 ghost use Rattle.example_bakery_service.specs.Model.{error_of, is_error};
-ghost use Rattle.client_call.specs.Ending.{ending_calls};
 ghost use Rattle.laws_client.specs.Retries.Attempting.{GrewAsAllowed, IsOfWholeRun};
 ghost use Rattle.laws_client.specs.Retries.Telling.{TellsBuckets};
 ghost use Rattle.client_components.specs.Paying.{Pays, prices_of};
 ghost use Rattle.orchestrate.specs.Answered.{InputAnswered};
 ghost use Rattle.orchestrate.specs.Growth.{GrewByAtMost};
 ghost use Rattle.orchestrate.specs.Handing.{HadMemory};
-ghost use Rattle.client_retries.specs.Strategies.{Closes};
-ghost use Rattle.client_retries.specs.declared.strategy.RetryStrategy.{RetryStrategy};
 ghost use Rattle.run_grammar.specs.declared.answer.Entry.{Entry};
-ghost use Rattle.smithy_types.specs.Chain.{Chained};
-ghost use Rattle.smithy_types.specs.Config.{standard_retry};
 
 use client_builder::{IdentityResolver, OperationBuilder, Scheme};
 use client_components::laws::further_attempts_are_paid;
@@ -28,7 +22,7 @@ use orchestrate::{InvokeError, Operation};
 use outside::Outside;
 use retry_policy::ClassifyRetry;
 use retry_quota::Quota;
-use smithy_types::{RetryConfig, Wire};
+use smithy_types::Wire;
 use std::alloc::Global;
 
 /// The builder of an operation of the service.
@@ -59,15 +53,6 @@ pub type BakeryClient<X, Q, C, I> = RuntimeComponents<BakeryTypes<X, Q, C, I>>;
 
 /// An operation of the service.
 pub type BakeryOperation<In, Out> = Operation<In, Out, BakeryError>;
-
-/// At most three attempts, a second and two seconds apart, without a random part.
-pub fn retry() -> RetryConfig
-    ensures { result ≡ record standard_retry { static_base = true } }
-{
-    let mut retry = RetryConfig::standard();
-    retry.static_base = true;
-    retry
-}
 
 /// Invokes an operation of the service. At most `fuel` questions are asked. An output or an
 /// `SdkError` is the outcome of one whole run; each further attempt of it began only where fewer
@@ -101,25 +86,4 @@ pub fn invoke<
     further_attempts_are_paid::<BakeryTypes<X, Q, C, I>>();
     decisions_tell_the_bucket::<BakeryTypes<X, Q, C, I>>();
     operation.invoke(alloc, client, input, fuel)
-}
-
-/// Takes outside and quota out of a client, for that of another operation. First it ends what is
-/// open outside (the load of an identity, the call and the sleeps), and gives the permit back that
-/// the retry strategy still holds.
-pub fn taken_apart<X: Outside + Drop, Q: Quota + Drop, C: ClassifyRetry, I: TakeOffer>(
-    client: BakeryClient<X, Q, C, I>,
-) -> (X, Q)
-    ensures outside { Chained X.makes client.parts.outside
-        (ending_choice client.parts.identities
-        ++ ending_calls client.parts.sleeps client.parts.call)
-        result.0 }
-    ensures quota { (emptied : RetryStrategy Q.Permit)
-        × Closes ⟦<Q as QuotaMeaning>⟧.means client.parts.strategy client.parts.quota emptied
-        result.1 }
-{
-    let mut client = client;
-    client.parts.end_open();
-    client.close();
-    let parts = client.parts;
-    (parts.outside, parts.quota)
 }

@@ -3,9 +3,7 @@
 #![tactic(auto)]
 
 mod client;
-mod signing;
 mod watching;
 
-pub use client::{BakeryBuilder, BakeryClient, BakeryOperation, invoke, retry, taken_apart};
-pub use signing::{Signing, bearer_id, signing_by};
+pub use client::{BakeryBuilder, BakeryClient, BakeryOperation, invoke};
 pub use watching::{Ending, GetOrder, Watch, wait};

@@ -1,19 +1,17 @@
 //! A waiter that asks for an order until it is ready.
 ghost use Rattle.std.specs.Prelude.{◌≡◌, ◌<◌, ◌≤◌, ◌+◌, ◌^◌, IfOk, Ok};
-ghost use Rattle.example_bakery_client.specs.Waiting.{Asks, AsksFor, Says, WaitsBy, told};
+ghost use Rattle.example_bakery_client.specs.Waiting.{Asks, AsksFor, Says, WaitsBy};
 ghost use Rattle.example_bakery_service.specs.declared.model.OrderState.TheVariants.{Ready};
-ghost use Rattle.smithy_types.specs.declared.fault.FaultKind.TheVariants.{Other};
-ghost use Rattle.smithy_types.specs.declared.fault.SdkError.TheVariants.{DispatchFailure};
 
 use crate::client::{BakeryClient, BakeryOperation, invoke};
+use client_operations::polled;
 use client_retries::TakeOffer;
 use example_bakery_service::{BakeryError, GetOrderInput, GetOrderOutput, OrderState};
-use orchestrate::InvokeError;
 use outside::Outside;
 use outside_scripted::ScriptedOutside;
 use retry_policy::ClassifyRetry;
 use retry_quota::Quota;
-use smithy_types::{AcceptorState, Fault, FaultKind, OutOfMemory, SdkError, Text, Timers};
+use smithy_types::{AcceptorState, OutOfMemory, SdkError, Text, Timers};
 use std::alloc::Global;
 use waiters::backoff::SECOND;
 use waiters::{FinalPoll, WaiterError, WaiterOrchestrator, WaiterTimers};
@@ -158,31 +156,6 @@ fn ask<Q: Quota + Drop, C: ClassifyRetry, I: TakeOffer>(
     ensures { AsksFor input result client.old.log client.new.log }
 {
     polled(invoke(alloc, operation, client, input, FUEL_OF_A_POLL))
-}
-
-// An invocation's answer as that of a poll. What isn't an SdkError is told as one.
-fn polled(
-    answer: Result<GetOrderOutput, InvokeError<BakeryError>>,
-) -> Result<Option<Polled>, OutOfMemory>
-    ensures { result ≡ told answer }
-{
-    match answer {
-        Ok(output) => Ok(Some(Ok(output))),
-        Err(InvokeError::Sdk(error)) => Ok(Some(Err(error))),
-        Err(InvokeError::Unfinished) => Ok(Some(Err(other("the fuel is used up")))),
-        Err(InvokeError::WrongType(_)) => Ok(Some(Err(other("an answer of another kind")))),
-        Err(InvokeError::OutOfMemory) => Err(OutOfMemory),
-    }
-}
-
-// A failure that has nothing to do with the service, told as one of dispatch.
-fn other(text: &'static str) -> SdkError<BakeryError>
-    ensures { result ≡ DispatchFailure (record { kind = Other; text = text.now }) }
-{
-    SdkError::DispatchFailure(Fault {
-        kind: FaultKind::Other,
-        text: Text::from_static(text),
-    })
 }
 
 // Whether the order is ready. An error of the model ends the wait.

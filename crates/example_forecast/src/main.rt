@@ -18,7 +18,8 @@ use anyhow::Result;
 use smithy_runtime::{
     Classifier, ClientRateLimiter, ClientTypes, InvokeError, ModeledAsRetryableClassifier,
     NoAuthIdentityResolver, NoAuthScheme, Operation, OperationBuilder, Outside, Quota, Registry,
-    RetryConfig, Row, RuntimeComponents, Text, TimeoutConfig, Timers, added, refusal_of, service,
+    Row, RuntimeComponents, Text, TimeoutConfig, Timers, added, refusal_of, service, steady_retry,
+    without_facts,
 };
 use std::alloc::Global;
 
@@ -75,7 +76,7 @@ fn get_forecast<X: Outside + Drop, Q: Quota + Drop>(
         .sleep_impl()
         .time_source()
         .endpoint_url(Text::from_static(URL))
-        .standard_retry(retry())
+        .standard_retry(steady_retry())
         .timeout_config(TimeoutConfig::disabled())
         .own_serializer(ForecastSerializer)
         .own_deserializer(ForecastDeserializer)
@@ -86,19 +87,6 @@ fn get_forecast<X: Outside + Drop, Q: Quota + Drop>(
         Ok((operation, client)) => ask(rt, operation, client),
         Err(back) => Err(refusal_of(back).into()),
     }
-}
-
-// The same value, without the facts that are known of it: of a builder nothing is known then, and
-// no goal behind its setters computes on the parts of the empty one.
-fn without_facts<T>(value: T) -> T {
-    value
-}
-
-// At most three attempts, a second and two seconds apart, without a random part.
-fn retry() -> RetryConfig {
-    let mut retry = RetryConfig::standard();
-    retry.static_base = true;
-    retry
 }
 
 // Asks for the forecast with this client.

@@ -5,6 +5,8 @@ pub use Rattle.client_builder.specs.Built
 pub use Rattle.client_builder.specs.Refusal
 pub use Rattle.client_call.specs.Ending
 pub use Rattle.client_components.specs.Meaning as ClientMeaning
+pub use Rattle.client_operations.specs.Polling
+pub use Rattle.client_operations.specs.Watching
 pub use Rattle.client_components.specs.Paying
 pub use Rattle.client_components.specs.Serving
 pub use Rattle.client_retries.specs.Strategies

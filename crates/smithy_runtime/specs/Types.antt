@@ -66,6 +66,7 @@ pub use Rattle.smithy_context.specs.declared.setting.Setting
 pub use Rattle.smithy_context.specs.declared.setting.SettingKey
 pub use Rattle.smithy_context.specs.declared.settings.Settings
 pub use Rattle.smithy_types.specs.declared.hook.Hook
+pub use Rattle.smithy_types.specs.declared.hook.RunPart
 pub use Rattle.smithy_types.specs.declared.config.StalledStreamProtectionConfig
 pub use Rattle.smithy_types.specs.declared.config.TimeoutConfig
 pub use Rattle.rate_limit.specs.declared.limiter.ClientRateLimiter

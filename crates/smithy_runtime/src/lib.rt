@@ -20,6 +20,10 @@ pub use client_builder::{
     BuildRefusal, Client, IdentityResolver, OperationBuilder, Plugin, Scheme, added, refusal_of,
 };
 pub use client_components::{ClientMeans, ClientTypes, Parts, RuntimeComponents, TypesOf};
+pub use client_operations::{
+    JsonBuilder, JsonDeserializer, JsonSerializer, Signing, SleepingOutside, SleepingTypes, Watch,
+    bearer_id, polled, signing_by, steady_retry, taken_apart, without_facts,
+};
 pub use client_retries::TakeOffer;
 pub use orchestrate::{
     Answer, Entry, Invocation, InvokeError, Kind, Operation, Question, ScriptAnswer, ScriptWorld,
@@ -36,7 +40,7 @@ pub use smithy_context::{
     Change, HookAnswer, HookView, InterceptorContext, Layer, LayerEntry, Setting, SettingKey,
     Settings,
 };
-pub use smithy_types::{Hook, StalledStreamProtectionConfig, TimeoutConfig};
+pub use smithy_types::{Hook, RunPart, StalledStreamProtectionConfig, TimeoutConfig};
 
 // Retries, and the quotas that they are paid from.
 pub use rate_limit::{

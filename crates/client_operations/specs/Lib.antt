@@ -1,0 +1,3 @@
+pub mod JsonProtocol
+pub mod Polling
+pub mod Watching
