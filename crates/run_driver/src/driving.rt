@@ -1,7 +1,7 @@
 //! A run that is driven from one wait to the next.
-ghost use Rattle.std.specs.Prelude.{◌≡◌, ◌≤◌, ◌⊎◌, true, false, IfOk, OnErr};
+ghost use Rattle.std.specs.Prelude.{◌≡◌, ◌≤◌, ◌⊎◌, true, false, IfOk, OnErr, OnOk};
 ghost use Rattle.orchestrate.specs.Handing.{HandedOn};
-ghost use Rattle.run_driver.specs.Driving.{Advances, IsDone, IsInterrupted};
+ghost use Rattle.run_driver.specs.Driving.{Advances, IsDone, IsInterrupted, Stretches};
 
 use orchestrate::{Invocation, Step, World};
 use smithy_types::OutOfMemory;
@@ -29,6 +29,7 @@ pub struct Driven {
 }
 
 /// Drives a run on by at most `fuel` calls, until it has to wait or is whole.
+#[tactic(auto, using(crate::proofs::DrivingLemmas::stretched_awake))]
 pub fn drive_on<W: Parking>(
     alloc: Global,
     world: &mut W,
@@ -40,6 +41,7 @@ pub fn drive_on<W: Parking>(
         (W.calls world.old) (W.calls world.new) driven.calls) }
     ensures related { IfOk result (λ driven. HandedOn W.relates world.old world.new
         (W.calls world.old) (W.calls world.new)) }
+    ensures stretches { OnOk result (Stretches W.calls W.relates W.parks world.old world.new) }
     ensures waits { IfOk result (λ driven. driven.is_over ≡ false → W.parks world.new ≡ true) }
     ensures over { IfOk result (λ driven. driven.is_over ≡ true →
         (driven.calls ≡ fuel) ⊎ IsDone invocation.new) }
