@@ -17,6 +17,7 @@ use Rattle.cli_fleet.specs.Fleet.{fleet_says}
 use Rattle.cli_waiters.specs.Waiters.{waiters_says}
 use Rattle.runcheck.specs.Check.{check_says}
 use Rattle.cli_replay.specs.Replay.{replay_says}
+use Rattle.cli_serve.specs.Conversing.{Converses}
 use Rattle.cli_commands.specs.declared.help.TheConstants.{HELP, VERSION}
 use Rattle.cli_commands.specs.declared.words.Command.{Command}
 use Rattle.cli_commands.specs.declared.words.Command.TheVariants as commands
@@ -49,6 +50,8 @@ Does reads sees (Some commands.Waiters) ended before after old new =
     Serves reads sees waiters_says ended before after old new
 Does reads sees (Some commands.Fleet) ended before after old new =
     Serves reads sees fleet_says ended before after old new
+Does reads sees (Some commands.Serve) ended before after old new =
+    Converses ended (reads before) (reads after) (sees old) (sees new)
 Does reads sees (Some commands.Check) ended before after old new =
     Serves reads sees check_says ended before after old new
 Does reads sees (Some (commands.Make count seed)) ended before after old new =

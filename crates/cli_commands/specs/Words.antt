@@ -40,7 +40,8 @@ one_word w = if is_word (codes "--help") w then Some commands.Help
     else (if is_word (codes "wait") w then Some commands.Wait
     else (if is_word (codes "waiters") w then Some commands.Waiters
     else (if is_word (codes "fleet") w then Some commands.Fleet
-    else (if is_word (codes "check") w then Some commands.Check else None)))))))
+    else (if is_word (codes "serve") w then Some commands.Serve
+    else (if is_word (codes "check") w then Some commands.Check else None))))))))
 
 -- the command that a word behind `client` names
 unfoldable pub option_of_client : List ℕ → Option Command

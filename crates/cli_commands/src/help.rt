@@ -13,6 +13,7 @@ A command reads its script from standard input and prints to standard output.
   wait          runs a waiter over a script
   waiters       runs many waiters over a script, whose polls one bucket pays for
   fleet         runs clients in threads over one bucket
+  serve         decides what a host sends, line by line, until its input ends
   check         tells whether its input is the print of a run
   make N SEED   makes a script of N invocations and runs it; reads nothing
   --schema COMMAND  prints the JSON Schema of a command's scripts; reads nothing
@@ -26,11 +27,13 @@ Examples:
   smithy_replay wait < examples/wait/fifth_poll.json
   smithy_replay waiters < examples/waiters/one_of_two.json
   smithy_replay fleet < examples/fleet/a_retry_each.json
+  smithy_replay serve < examples/serve/a_retry_after_503.lines
   smithy_replay check < examples/teapot.txt
   smithy_replay make 3 7
   smithy_replay --schema client
 
-docs/FORMATS.md tells what each command reads and prints. Where words or an
+docs/FORMATS.md tells what each command reads and prints, and docs/HOSTS.md
+what the lines of serve are. Where words or an
 input are refused, standard error says why, and where in the input.
 
 Exit statuses:

@@ -10,6 +10,7 @@ use cli_client::{ClientCommand, MakeCommand, MomentsCommand};
 use cli_fleet::{Gate, OpenGate, answer_fleet};
 use cli_replay::command::{Replay, serve_replay};
 use cli_replay::left_over::LeftOver;
+use cli_serve::serve_host;
 use cli_shell::fixed::Fixed;
 use cli_shell::serve::{give, serve, show};
 use cli_shell::sink::Sink;
@@ -129,6 +130,7 @@ fn ended_alone<S: Source, K: Sink>(
         Some(Command::Wait) => serve(alloc, &WaitCommand, source, sink),
         Some(Command::Waiters) => serve(alloc, &WaitersCommand, source, sink),
         Some(Command::Fleet) => unreachable!(),
+        Some(Command::Serve) => serve_host(alloc, source, sink),
         Some(Command::Check) => serve(alloc, &Check, source, sink),
         Some(Command::Make { count, seed }) => show(alloc, &MakeCommand { count, seed }, sink),
         None => Ended::Shell(ShellStatus::BadWords),

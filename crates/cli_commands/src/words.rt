@@ -24,6 +24,8 @@ pub enum Command {
     Waiters,
     /// Runs clients in threads over one bucket.
     Fleet,
+    /// Serves a host.
+    Serve,
     /// Tells whether a text is the print of a run.
     Check,
     /// Makes a client script and runs it.
@@ -64,6 +66,7 @@ fn named_command(word: &str) -> Option<Command>
         "wait" => Some(Command::Wait),
         "waiters" => Some(Command::Waiters),
         "fleet" => Some(Command::Fleet),
+        "serve" => Some(Command::Serve),
         "check" => Some(Command::Check),
         _ => None,
     }

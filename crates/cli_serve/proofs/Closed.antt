@@ -1,0 +1,62 @@
+-- Where no box is made, it doesn't matter of what kind boxes would be.
+use Rattle.std.proofs.Common.{ℤ, None, refl, subst, inl, inr}
+use Rattle.retry_policy.specs.declared.classify.Classifier.{Classifier}
+use Rattle.smithy_base.specs.declared.intercept.Slot.{Slot}
+use Rattle.smithy_context.specs.declared.context.InterceptorContext.{InterceptorContext}
+use Rattle.smithy_types.specs.declared.notes.RetryAction.{RetryAction}
+use Rattle.client_builder.specs.declared.own_interceptor.OwnInterceptor.{OwnInterceptor}
+use Rattle.client_retries.specs.Meanings.{InterceptorMeans}
+use Rattle.client_scripted.specs.declared.service.error.ServiceError.{ServiceError}
+use Rattle.cli_client.proofs.Closing.{Intercepts, Ranks, Says, all_says, any_kind, one_chain, ranks}
+use Rattle.cli_client.specs.Means.{NoClassifier, NoInterceptor, none, own_chain, own_ranked, own_says}
+use Rattle.cli_shell.specs.declared.status.Ended.{Ended}
+use Rattle.cli_serve.specs.Conversing.{OpensAndServes, Place, ServesHost, ServesSession}
+use Rattle.cli_serve.specs.Means.{hosted_means}
+use Rattle.cli_serve.specs.Opening.{BuildsClient, Opens, ServedClient}
+use Rattle.cli_serve.specs.declared.description.HostDescription.{HostDescription}
+
+nobody : NoClassifier → ⊥
+nobody (inl b) = b
+nobody (inr b) = b
+
+nothing : NoInterceptor → ⊥
+nothing (inl b) = b
+nothing (inr (inl b)) = b
+nothing (inr (inr (inl b))) = b
+nothing (inr (inr (inr (inl b)))) = b
+nothing (inr (inr (inr (inr b)))) = b
+
+module _ (d : HostDescription) (ended : Ended) (old new : Place) where
+  -- the session is opened and served, by these meanings
+  abbrev pub ServesBy : (v : NoClassifier → Type 0) (w : NoInterceptor → Type 0) → (Classifier ServiceError NoClassifier v → ℤ) → (Classifier ServiceError NoClassifier v → InterceptorContext → RetryAction → RetryAction) →
+      InterceptorMeans (Slot OwnInterceptor NoInterceptor w) → Type 0
+  ServesBy v w ranked says chain =
+      OpensAndServes {W = ServedClient (Classifier ServiceError NoClassifier v) (Slot OwnInterceptor NoInterceptor w)} (hosted_means says chain)
+      (Opens {V = NoClassifier} {W = NoInterceptor} {v = v} {w = w} ranked d) ended old new
+
+  abbrev ServesOver : (v : NoClassifier → Type 0) (w : NoInterceptor → Type 0) → Type 0
+  ServesOver v w = ServesBy v w own_ranked own_says own_chain → ServesHost d ended old new
+
+  over_any : (v : NoClassifier → Type 0) (w : NoInterceptor → Type 0) → ServesOver v w
+  over_any v w = any_kind nobody (λ x. ServesOver x w) v (any_kind nothing (λ y. ServesOver none y) w (λ h. h))
+
+  pub closed : (v : NoClassifier → Type 0) (w : NoInterceptor → Type 0) (ranked : Classifier ServiceError NoClassifier v → ℤ) (says : Classifier ServiceError NoClassifier v → InterceptorContext → RetryAction → RetryAction)
+      (chain : InterceptorMeans (Slot OwnInterceptor NoInterceptor w)) → Ranks ranked → Says says → Intercepts chain → ServesBy v w ranked says chain → ServesHost d ended old new
+  closed v w ranked says chain r s n h =
+      over_any v w
+      (subst (λ x. ServesBy v w own_ranked own_says x) (one_chain nothing chain n)
+      (subst (λ x. ServesBy v w own_ranked x chain) (all_says nobody says s)
+      (subst (λ x. ServesBy v w x says chain) (ranks nobody ranked r) h)))
+
+-- so it is of a client that was built and served
+pub closed_client : (d : HostDescription) (ended : Ended) (old new : Place) (v : NoClassifier → Type 0) (w : NoInterceptor → Type 0) (ranked : Classifier ServiceError NoClassifier v → ℤ)
+    (says : Classifier ServiceError NoClassifier v → InterceptorContext → RetryAction → RetryAction) (chain : InterceptorMeans (Slot OwnInterceptor NoInterceptor w))
+    (client : ServedClient (Classifier ServiceError NoClassifier v) (Slot OwnInterceptor NoInterceptor w)) →
+    BuildsClient {V = NoClassifier} {W = NoInterceptor} {v = v} {w = w} ranked d client →
+    ServesSession (hosted_means says chain) (record { world = client; run = None; kinds = record { output = 1; error = 2 } }) ended old new → Ranks ranked → Says says → Intercepts chain → ServesHost d ended old new
+closed_client d ended old new v w ranked says chain client built serves r s n =
+    closed d ended old new v w ranked says chain r s n (record {
+      session = record { world = client; run = None; kinds = record { output = 1; error = 2 } };
+      is_opened = record { client = built; run = refl; kinds = refl };
+      serves = serves;
+    })

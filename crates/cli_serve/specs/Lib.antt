@@ -1,0 +1,4 @@
+pub mod Conversing
+pub mod Description
+pub mod Means
+pub mod Opening

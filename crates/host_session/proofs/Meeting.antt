@@ -1,0 +1,160 @@
+-- The cases of what a line makes of a session.
+use Rattle.std.specs.Prelude.{◌≡◌, ℕ, true, List, [], ◌++◌, Option, Some, None, is_some}
+use Rattle.std.proofs.Common.{refl, sym, ap, ◌∙◌, subst, inl, inr}
+use Rattle.outside_scripted.specs.Wake.{IsNext}
+use Rattle.outside_hosted.specs.Telling.{after_told, told_of}
+use Rattle.outside_hosted.specs.declared.telling.Told.{Told}
+use Rattle.run_grammar.specs.declared.answer.Entry.{Entry}
+use Rattle.outside_hosted.specs.declared.events.HostEvent.{HostEvent}
+use Rattle.smithy_types.specs.declared.kinds.StopPoint.{StopPoint}
+use Rattle.smithy_types.specs.declared.payload.Payload.{Payload}
+use Rattle.orchestrate.specs.Handing.{HandedOn}
+use Rattle.run_driver.specs.Driving.{Stretches}
+use Rattle.run_driver.specs.Running.{Goes, IsOver}
+use Rattle.run_driver.specs.declared.running.DrivenRun.{DrivenRun}
+use Rattle.json_host.specs.Messages.{IsMessage}
+use Rattle.json_forms.specs.Lines.{line}
+use Rattle.json_host.specs.Replies.{poison_text, refused_data, told_text}
+use Rattle.json_host.specs.declared.message.HostInvocation.{HostInvocation}
+use Rattle.json_host.specs.declared.message.HostMessage.{HostMessage}
+use Rattle.json_print.specs.Print.{ending_data}
+use Rattle.json_print.specs.declared.ending.Ending.{Ending}
+use Rattle.host_session.specs.declared.session.Fed.{Fed}
+use Rattle.host_session.specs.declared.session.Fed.TheVariants.{Open}
+use Rattle.host_session.specs.declared.session.Kinds.{Kinds}
+use Rattle.host_session.specs.declared.session.SeatRun.{SeatRun}
+use Rattle.host_session.specs.declared.session.Session.{Session}
+use Rattle.host_session.specs.declared.why.Why.{Why}
+use Rattle.host_session.specs.declared.why.Why.TheVariants.{NoMessage}
+use Rattle.host_session.specs.Ending.{EndsBy, done_data, given_up_data, log_text}
+use Rattle.host_session.specs.Feeding.{Begins, Closes, Drives, Feeds, GivesAnyUp, GoesOn, GoesOnAs, Meets, Refuses, Rests, Takes, Waits, feeding}
+use Rattle.host_session.specs.Meaning.{HostedMeaning}
+use Rattle.host_session.specs.Running.{Starts, calls_of, head_of}
+use Rattle.host_session.specs.Refusing.{refusal_of, why_text}
+
+-- a line that is refused
+pub refuses : {W : Type 0} (reason : Why) (old : Session W) (before text : List ℕ) (come : Fed) → text ≡ before ++ line (refused_data (why_text reason)) → come ≡ Open → Refuses reason old before old text come
+refuses reason old before text come told stays = record { same = refl; text_is = told; stays = stays }
+
+-- a run that made no call
+pub starts : (i : HostInvocation) (kinds : Kinds) (copy : Payload) (driven : DrivenRun) → copy ≡ i.input → driven.fuel ≡ i.fuel → ((log : List Entry) → Goes copy i.stop driven log log) →
+    Starts i kinds (record { driven = driven; head = head_of i kinds; is_logged = i.is_logged })
+starts i kinds copy driven same fuel goes = record {
+  head = refl;
+  is_logged = refl;
+  fuel = fuel;
+  goes = subst (λ (p : Payload). (log : List Entry) → Goes p i.stop driven log log) same goes;
+}
+
+module _ {W : Type 0} (means : HostedMeaning W) where
+  pub meets_refused : (found : Option Why) (reason : Why) (m : HostMessage) (old : Session W) (before text : List ℕ) (come : Fed) →
+      found ≡ Some reason → text ≡ before ++ line (refused_data (why_text reason)) → come ≡ Open → Meets means found m old before old text come
+  meets_refused found reason m old before text come is told stays =
+      subst (λ (r : Option Why). Meets means r m old before old text come) (sym is) (refuses reason old before text come told stays)
+
+  pub meets_taken : (found : Option Why) (m : HostMessage) (old new : Session W) (before text : List ℕ) (come : Fed) →
+      found ≡ None → Takes means m old before new text come → Meets means found m old before new text come
+  meets_taken found m old new before text come is taken =
+      subst (λ (r : Option Why). Meets means r m old before new text come) (sym is) taken
+
+  pub feeds_message : (bytes : List ℕ) (m : HostMessage) (old new : Session W) (before text : List ℕ) (come : Fed) →
+      IsMessage bytes m → Meets means (refusal_of m (is_some old.run)) m old before new text come →
+      Feeds means bytes old before new text come
+  feeds_message bytes m old new before text come is met = inl (m, is, met)
+
+  pub feeds_none : (bytes : List ℕ) (old : Session W) (before text : List ℕ) (come : Fed) →
+      ((m : HostMessage) → IsMessage bytes m → ⊥) → text ≡ before ++ line (refused_data (why_text NoMessage)) → come ≡ Open →
+      Feeds means bytes old before old text come
+  feeds_none bytes old before text come none told stays = inr (none, refuses NoMessage old before text come told stays)
+
+  pub goes_on_some : (found : Option SeatRun) (run : SeatRun) (old : W) (kinds : Kinds) (new : Session W) (before text : List ℕ) →
+      found ≡ Some run → GoesOnAs means run old kinds before new text → GoesOn means found old kinds before new text
+  goes_on_some found run old kinds new before text is goes =
+      subst (λ (r : Option SeatRun). GoesOn means r old kinds before new text) (sym is) goes
+
+  pub goes_on_none : (found : Option SeatRun) (old : W) (kinds : Kinds) (new : Session W) (before text : List ℕ) →
+      found ≡ None → new ≡ record { world = old; run = None; kinds = kinds } → text ≡ before → GoesOn means found old kinds before new text
+  goes_on_none found old kinds new before text is same told =
+      subst (λ (r : Option SeatRun). GoesOn means r old kinds before new text) (sym is) (same, told)
+
+  pub is_over : (run after : SeatRun) (old world : W) (kinds : Kinds) (new : Session W) (before text : List ℕ) →
+      Drives means old run world after → Closes means world after kinds before new text →
+      GoesOnAs means run old kinds before new text
+  is_over run after old world kinds new before text drives closes = record { world = world; after = after; drives = drives; told = inr closes }
+
+  pub is_waiting : (run after : SeatRun) (old world : W) (kinds : Kinds) (new : Session W) (before text : List ℕ) →
+      Drives means old run world after → means.parks world ≡ true → Waits means world after kinds before new text →
+      GoesOnAs means run old kinds before new text
+  is_waiting run after old world kinds new before text drives parks waits = record { world = world; after = after; drives = drives; told = inl (parks, waits) }
+
+  pub waits : (world : W) (run : SeatRun) (kinds : Kinds) (told : Told) (new : Session W) (before text : List ℕ) →
+      told ≡ told_of told.wake (means.outside world) → IsNext (means.outside world).moment (means.outside world).sleeps told.wake → text ≡ before ++ told_text 0 told →
+      new ≡ record { world = means.with_outside (after_told (means.outside world)) world; run = Some run; kinds = kinds } → Waits means world run kinds before new text
+  waits world run kinds told new before text is next text_is after = record {
+    wake = told.wake;
+    next = next;
+    text_is = text_is ∙ ap (λ (t : Told). before ++ told_text 0 t) is;
+    after = after;
+  }
+
+  pub rested : (old ended new : W) (told : Told) (before text : List ℕ) →
+      means.rests old ended → told ≡ told_of told.wake (means.outside ended) → new ≡ means.with_outside (after_told (means.outside ended)) ended → text ≡ before ++ poison_text 0 told.poisoned →
+      Rests means old before new text
+  rested old ended new told before text ends is after text_is = record {
+    ended = ended;
+    ends = ends;
+    after = after;
+    text_is = text_is ∙ ap (λ (t : Told). before ++ poison_text 0 t.poisoned) is;
+  }
+
+  pub closes : (world : W) (run : SeatRun) (kinds : Kinds) (ending : Ending) (new : Session W) (before told logged text : List ℕ) →
+      Rests means world before new.world told → EndsBy run ending → IsOver run.driven → logged ≡ told ++ log_text run.is_logged (means.calls new.world) →
+      text ≡ logged ++ line (done_data 0 (calls_of run) (ending_data ending)) → new ≡ record { world = new.world; run = None; kinds = kinds } →
+      Closes means world run kinds before new text
+  closes world run kinds ending new before told logged text rest ends over logged_is text_is after = record {
+    told = told;
+    rest = rest;
+    ending = ending;
+    ends = ends;
+    over = over;
+    text_is = text_is ∙ ap (λ (t : List ℕ). t ++ line (done_data 0 (calls_of run) (ending_data ending))) logged_is;
+    after = after;
+  }
+
+  pub drives : (old new : W) (run : SeatRun) (driven : DrivenRun) →
+      ((p : Payload) (stop : StopPoint) (before : List Entry) → Goes p stop run.driven before (means.calls old) → Goes p stop driven before (means.calls new)) → driven.fuel ≡ run.driven.fuel →
+      HandedOn means.relates old new (means.calls old) (means.calls new) → Stretches means.calls means.relates means.parks old new →
+      Drives means old run new (record run { driven = driven })
+  drives old new run driven goes fuel related stretches = record { related = related; stretches = stretches; goes = goes; fuel = fuel; others = refl }
+
+  pub begins : (i : HostInvocation) (old empty fed_one : W) (kinds : Kinds) (run : SeatRun) (new : Session W) (before text : List ℕ) →
+      empty ≡ means.emptied old → fed_one ≡ feeding means i.moment [] empty → Starts i kinds run →
+      GoesOnAs means run fed_one kinds before new text → Begins means i old kinds before new text
+  begins i old empty fed_one kinds run new before text is_empty is_fed start goes = record {
+    run = run;
+    starts = start;
+    goes_on = subst (λ (w : W). GoesOnAs means run w kinds before new text)
+        (is_fed ∙ ap (λ (w : W). feeding means i.moment [] w) is_empty) goes;
+  }
+
+  pub goes_on_fed : (found : Option SeatRun) (old fed_one : W) (moment : ℕ) (events : List HostEvent) (kinds : Kinds) (new : Session W) (before text : List ℕ) →
+      fed_one ≡ feeding means moment events old → GoesOn means found fed_one kinds before new text →
+      GoesOn means found (feeding means moment events old) kinds before new text
+  goes_on_fed found old fed_one moment events kinds new before text is goes =
+      subst (λ (w : W). GoesOn means found w kinds before new text) is goes
+
+  pub gives_up_some : (found : Option SeatRun) (run : SeatRun) (old fed_one : W) (kinds : Kinds) (new : Session W) (before told text : List ℕ) →
+      found ≡ Some run → fed_one ≡ old → Rests means fed_one before new.world told → text ≡ told ++ line (done_data 0 (calls_of run) given_up_data) →
+      new ≡ record { world = new.world; run = None; kinds = kinds } → GivesAnyUp means found old kinds before new text
+  gives_up_some found run old fed_one kinds new before told text is is_fed rest text_is after =
+      subst (λ (r : Option SeatRun). GivesAnyUp means r old kinds before new text) (sym is) (record {
+        told = told;
+        rest = subst (λ (w : W). Rests means w before new.world told) is_fed rest;
+        text_is = text_is;
+        after = after;
+      })
+
+  pub gives_up_none : (found : Option SeatRun) (old : W) (kinds : Kinds) (new : Session W) (before text : List ℕ) →
+      found ≡ None → new ≡ record { world = old; run = None; kinds = kinds } → text ≡ before → GivesAnyUp means found old kinds before new text
+  gives_up_none found old kinds new before text is same told =
+      subst (λ (r : Option SeatRun). GivesAnyUp means r old kinds before new text) (sym is) (same, told)

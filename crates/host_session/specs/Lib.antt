@@ -1,0 +1,12 @@
+pub mod Ending
+pub mod Feeding
+pub mod Handing
+pub mod Laws
+pub mod Lines
+pub mod Meaning
+pub mod Piece
+pub mod Refusing
+pub mod Rules
+pub mod Running
+pub mod Service
+pub mod Talking

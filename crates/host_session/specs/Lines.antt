@@ -1,0 +1,62 @@
+-- The lines of a source.
+use Rattle.std.specs.Prelude.{◌≡◌, ℕ, ◌≤◌, false, ◌==◌, List, [], ◌∷◌, ◌++◌, length, Option, Some, None}
+use Rattle.std.specs.Io.KnownBytes.{Consumes, IsAtEnd}
+use Rattle.std.specs.List.{list_any}
+use Rattle.cli_shell.specs.Source.{SourceView, Rose}
+use Rattle.cli_shell.specs.Streams.{Took}
+use Rattle.cli_shell.specs.declared.status.ShellStatus.{ShellStatus}
+use Rattle.cli_shell.specs.declared.status.ShellStatus.TheVariants as shells
+
+-- none of these bytes is a line feed
+abbrev pub HasNoFeed : List ℕ → Type 0
+HasNoFeed bytes = list_any (λ b. b == 10) bytes ≡ false
+
+-- The bytes up to the first line feed, where there is one, are added to the front, and these stand behind it.
+unfoldable pub Splits : List ℕ → List ℕ → Option (List ℕ) → List ℕ → Type 0
+Splits bytes front None new = HasNoFeed bytes × (new ≡ front ++ bytes)
+Splits bytes front (Some behind) new =
+    (more : List ℕ) × HasNoFeed more × (bytes ≡ more ++ 10 ∷ behind) × (new ≡ front ++ more)
+
+-- These bytes and what came behind them are read on to the first line feed, where there is one: the front grows by what
+-- stands before it, and these stand behind it. Without one the source is at its end.
+unfoldable pub ReadsFrom : List ℕ → SourceView → List ℕ → Option (List ℕ) → List ℕ → SourceView → Type 0
+ReadsFrom unread before front None new after =
+    (came : List ℕ) × Consumes before.left after.left came × Splits (unread ++ came) front None new × IsAtEnd after.left
+ReadsFrom unread before front (Some behind) new after =
+    (came : List ℕ) × Consumes before.left after.left came × Splits (unread ++ came) front (Some behind) new
+
+-- the same of what came alone
+abbrev pub ReadsOn : SourceView → List ℕ → Option (List ℕ) → List ℕ → SourceView → Type 0
+ReadsOn before front behind new after = ReadsFrom [] before front behind new after
+
+-- A piece came without a line feed.
+unfoldable pub Grows : SourceView → List ℕ → List ℕ → SourceView → Type 0
+Grows before front new after = (came : List ℕ) × Consumes before.left after.left came × Splits came front None new
+
+-- Of what was unread and of what came, the next line is taken, without its line feed, and this is left.
+pub record TakesLine (unread : List ℕ) (before : SourceView) (line left : List ℕ) (after : SourceView) : Type 0 where
+  pub came : List ℕ
+  pub taken : Consumes before.left after.left came
+  pub begins : unread ++ came ≡ line ++ 10 ∷ left
+  pub whole : HasNoFeed line
+  pub bound : length line ≤ 16777216
+
+-- The source is at its end, and no line feed is left.
+pub record EndsUnread (unread : List ℕ) (before after : SourceView) : Type 0 where
+  pub came : List ℕ
+  pub taken : Consumes before.left after.left came
+  pub at_end : IsAtEnd after.left
+  pub no_line : HasNoFeed (unread ++ came)
+
+-- a line, or none
+abbrev pub TakesNext : List ℕ → SourceView → Option (List ℕ) → List ℕ → SourceView → Type 0
+TakesNext unread before None left after = EndsUnread unread before after
+TakesNext unread before (Some line) left after = TakesLine unread before line left after
+
+-- The line can't be read, and this is why. A front of the source was taken.
+unfoldable pub LosesLine : ShellStatus → SourceView → SourceView → Type 0
+LosesLine shells.ReadFault before after = Took before after × Rose before.faults after.faults
+LosesLine shells.LongInput before after = Took before after
+LosesLine shells.OutOfMemory before after = Took before after
+LosesLine shells.BadWords before after = ⊥
+LosesLine shells.WriteFault before after = ⊥
