@@ -76,13 +76,16 @@ def file_names() -> Dict[str, Set[str]]:
 
 @functools.lru_cache(maxsize=None)
 def words() -> FrozenSet[str]:
-    """What a name may be: words of the crates' files, names of crates, edits, examples, checks."""
+    """What a name may be: words of the crates' files and of hosts, names of crates, edits,
+    examples, checks."""
     found = set(ELSEWHERE)
     for path in repository.sources():
         found |= repository.words_of(path)
     for path in map(pathlib.PurePath, repository.files()):
         if path.parts[0] in ("examples", "tests"):
             found.add(path.name.partition(".")[0])
+        if path.parts[0] == "hosts":
+            found |= repository.words_of(str(path))
     found.update(pathlib.PurePath(path).stem for path in repository.edits())
     return frozenset(found | repository.crates())
 

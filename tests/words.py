@@ -18,6 +18,7 @@ WRONG = [
     "fleet now",
     "client now",
     "fleet --moments",
+    "serve all",
     "client --moments now",
     "--help --version",
     "make 1",

@@ -11,9 +11,9 @@ from typing import List, Optional
 HELP = (["--help"], ["help"], ["-h"])
 VERSION = (["--version"], ["version"], ["-V"])
 WITH_SCHEMA = ("replay", "client", "fleet", "wait", "waiters")
-WITH_INPUT = (*WITH_SCHEMA, "check")
+WITH_INPUT = (*WITH_SCHEMA, "serve", "check")
 NAMES = (
-    *("replay", "client", "wait", "waiters", "fleet", "check", "make"),
+    *("replay", "client", "wait", "waiters", "fleet", "serve", "check", "make"),
     *("--schema", "--help", "--version"),
 )
 # For a longer word no name is near.
