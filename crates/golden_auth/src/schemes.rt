@@ -17,6 +17,7 @@ use smithy_types::{
     Blob, Body, Endpoint, EndpointHeader, Headers, HttpRequest, Identity, List, OutOfMemory, Text,
 };
 use std::alloc::Global;
+use std::fmt::Debug;
 
 /// The schemes that have a resolver, and the endpoint's list.
 const CHOICES: [(&[&'static str], &[&'static str]); 3] = [
@@ -282,10 +283,16 @@ fn sent(alloc: Global, uri: &'static str, first: At, second: At) -> Result<Vec<u
 }
 
 fn print_sent(rt: &HostRuntime) -> Result<()> {
-    for (uri, first, second) in SENT {
-        let text = String::from_utf8(sent(rt.alloc(), uri, first, second)?)?;
-        println!(rt; "{uri} to {} and {}: {text}", first.0, second.0)?;
+    for row in &SENT {
+        print_sent_row(rt, row)?;
     }
+    Ok(())
+}
+
+fn print_sent_row(rt: &HostRuntime, row: &(&'static str, At, At)) -> Result<()> {
+    let (uri, first, second) = *row;
+    let text = String::from_utf8(sent(rt.alloc(), uri, first, second)?)?;
+    println!(rt; "{uri} to {} and {}: {text}", first.0, second.0)?;
     Ok(())
 }
 
@@ -310,16 +317,32 @@ fn prefixed(alloc: Global, uri: &'static str, url: &'static str) -> Result<Vec<u
 
 // The endpoint of a static resolver, and the setting of its parameters.
 fn print_resolved(rt: &HostRuntime) -> Result<()> {
-    let local = StaticUriEndpointResolver::http_localhost(rt.alloc(), 1234)?;
-    let endpoint = local.clone()?.resolve_endpoint()?;
+    let endpoint = local_endpoint(rt.alloc())?;
+    print_endpoint(rt, &endpoint)?;
+    print_debug(
+        rt,
+        Setting::from(StaticUriEndpointResolverParams::default()),
+    )
+}
+
+fn local_endpoint(alloc: Global) -> Result<Endpoint> {
+    let local = StaticUriEndpointResolver::http_localhost(alloc, 1234)?;
+    Ok(local.clone()?.resolve_endpoint()?)
+}
+
+fn print_endpoint(rt: &HostRuntime, endpoint: &Endpoint) -> Result<()> {
     let headers = endpoint.headers.len();
     let listed = endpoint.schemes.is_some();
     println!(rt;
         "{}: {headers} headers, lists schemes: {listed}",
         endpoint.url
     )?;
-    let setting = Setting::from(StaticUriEndpointResolverParams::default());
-    println!(rt; "{setting:?}")?;
+    Ok(())
+}
+
+// Prints a value as it is shown for debugging.
+fn print_debug<T: Debug + Drop>(rt: &HostRuntime, value: T) -> Result<()> {
+    println!(rt; "{value:?}")?;
     Ok(())
 }
 
@@ -503,30 +526,48 @@ fn asked_twice<R: ResolveIdentity>(alloc: Global, resolver: &mut R) -> Result<St
 // A scheme and a resolver in boxes.
 fn print_boxed(rt: &HostRuntime) -> Result<()> {
     let alloc = rt.alloc();
-    let scheme = SharedAuthScheme::Boxed(Box::new(alloc, by_query("k"))?);
+    let scheme = SharedAuthScheme {
+        boxed: Box::new(alloc, by_query("k"))?,
+    };
     println!(rt; "{}", signed_by(alloc, &scheme)?)?;
     let resolver = HttpIdentityResolver::new(identity(alloc, "ab")?);
-    let mut resolver = SharedIdentityResolver::Boxed(Box::new(alloc, resolver)?);
+    let mut resolver = SharedIdentityResolver {
+        boxed: Box::new(alloc, resolver)?,
+    };
     println!(rt; "{}", asked_twice(alloc, &mut resolver)?)?;
     Ok(())
 }
 
 // What the plugins register, and when they are applied.
 fn print_plugins(rt: &HostRuntime) -> Result<()> {
-    let alloc = rt.alloc();
-    let plugin = NoAuthRuntimePlugin::default();
+    print_plugin(rt, &NoAuthRuntimePlugin::default())?;
+    print_newer_plugin(rt, &NoAuthRuntimePluginV2::default())?;
+    print_debug(rt, Setting::from(AuthSchemeAndEndpointOrchestrationV2))
+}
+
+fn print_plugin(rt: &HostRuntime, plugin: &NoAuthRuntimePlugin) -> Result<()> {
     println!(rt; "{:?}: {}", plugin.order(), plugin.auth_scheme().id())?;
-    println!(rt; "{}", asked_twice(alloc, &mut plugin.identity_resolver())?)?;
-    let newer = NoAuthRuntimePluginV2::default();
-    let options = newer
+    let text = asked_twice(rt.alloc(), &mut plugin.identity_resolver())?;
+    println!(rt; "{text}")?;
+    Ok(())
+}
+
+fn print_newer_plugin(rt: &HostRuntime, plugin: &NoAuthRuntimePluginV2) -> Result<()> {
+    println!(rt; "{:?}: {}", plugin.order(), plugin.auth_scheme().id())?;
+    let options = options_of(rt.alloc(), plugin)?;
+    print_options(rt, &options)
+}
+
+fn options_of(alloc: Global, plugin: &NoAuthRuntimePluginV2) -> Result<List<Text>, OutOfMemory> {
+    plugin
         .auth_scheme_option_resolver(None)
-        .resolve_auth_scheme_options(alloc)?;
-    println!(rt; "{:?}: {}", newer.order(), newer.auth_scheme().id())?;
+        .resolve_auth_scheme_options(alloc)
+}
+
+fn print_options(rt: &HostRuntime, options: &List<Text>) -> Result<()> {
     for option in options.as_slice() {
         println!(rt; "option {option}")?;
     }
-    let setting = Setting::from(AuthSchemeAndEndpointOrchestrationV2);
-    println!(rt; "{setting:?}")?;
     Ok(())
 }
 

@@ -22,9 +22,14 @@ pub fn print(rt: HostRuntime) -> Result<()> {
     let input = payload(rt.alloc(), 1, "what are you?")?;
     let answer = invoke(rt.alloc(), "service", "operation", &mut world, input, fuel);
     let calls = world.entries().len();
-    let end = if answer.is_ok() { "output" } else { "none" };
+    let end = ended(answer);
     println!(rt; "{calls} {end}")?;
     Ok(())
+}
+
+// How the run ended.
+fn ended<O: Drop, E: Drop>(answer: Result<O, E>) -> &'static str {
+    if answer.is_ok() { "output" } else { "none" }
 }
 
 // The number of delays and the fuel.

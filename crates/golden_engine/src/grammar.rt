@@ -11,20 +11,35 @@ mod told;
 
 use crate::grammar::errors::{FAILING, Failing, PHASES};
 use crate::grammar::forms::{FORMS, Form};
-use crate::grammar::kinds::KINDS;
+use crate::grammar::kinds::{OTHERS, STEPS};
 use crate::grammar::moments::{MOMENTS, Moment};
 use anyhow::Result;
 use run_grammar::Kind;
+use smithy_types::Hook;
 
 pub fn print(rt: HostRuntime) -> Result<()> {
     for moment in MOMENTS {
         println!(rt; "{moment:?}")?;
-        for kind in KINDS {
-            print_kind(&rt, moment, kind)?;
-        }
+        print_kinds(&rt, moment, STEPS)?;
+        print_hooks(&rt, moment)?;
+        print_kinds(&rt, moment, OTHERS)?;
     }
     for failing in FAILING {
         print_errors(&rt, failing)?;
+    }
+    Ok(())
+}
+
+fn print_hooks(rt: &HostRuntime, moment: Moment) -> Result<()> {
+    for hook in Hook::ALL {
+        print_kind(rt, moment, Kind::Hook(hook))?;
+    }
+    Ok(())
+}
+
+fn print_kinds(rt: &HostRuntime, moment: Moment, kinds: &[Kind]) -> Result<()> {
+    for kind in kinds {
+        print_kind(rt, moment, *kind)?;
     }
     Ok(())
 }

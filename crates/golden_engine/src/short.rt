@@ -29,7 +29,7 @@ fn print_whole(rt: &HostRuntime) -> Result<()> {
 
 // How a run with fuel enough ends.
 fn whole<W: World>(alloc: Global, world: &mut W) -> &'static str {
-    end_of(&invoke(alloc, "service", "operation", world, input(), 9))
+    end_of(invoke(alloc, "service", "operation", world, input(), 9))
 }
 
 // A run to the stop point with two units of fuel.
@@ -44,10 +44,13 @@ fn print_cut(rt: &HostRuntime) -> Result<()> {
 // How a run with two units of fuel ends.
 fn cut<W: World>(alloc: Global, world: &mut W) -> &'static str {
     let stop = StopPoint::BeforeTransmit;
-    match invoke_with_stop_point(alloc, "service", "operation", world, input(), stop, 2) {
+    let answer = invoke_with_stop_point(alloc, "service", "operation", world, input(), stop, 2);
+    let end = match &answer {
         Ok(_) => "stopped",
-        Err(error) => cause(&error),
-    }
+        Err(error) => cause(error),
+    };
+    drop(answer);
+    end
 }
 
 // A run that is driven one question at a time.
@@ -98,15 +101,17 @@ fn invoked<W: World>(
     operation: &Operation<Payload, Payload, Payload>,
     world: &mut W,
 ) -> &'static str {
-    end_of(&operation.invoke(alloc, world, input(), 9))
+    end_of(operation.invoke(alloc, world, input(), 9))
 }
 
 // How a run ended.
-fn end_of(answer: &Result<Payload, InvokeError<Payload>>) -> &'static str {
-    match answer {
+fn end_of(answer: Result<Payload, InvokeError<Payload>>) -> &'static str {
+    let end = match &answer {
         Ok(_) => "an output",
         Err(error) => cause(error),
-    }
+    };
+    drop(answer);
+    end
 }
 
 // Why a run has no output.

@@ -24,6 +24,7 @@ use smithy_types::{
     TimeoutConfig,
 };
 use std::alloc::Global;
+use std::fmt::Display;
 
 /// The service's name.
 const SERVICE: &str = "Teapots";
@@ -211,7 +212,13 @@ fn brewed<T: ClientTypes>(
     operation: &Brew,
     client: &mut RuntimeComponents<T>,
 ) -> Result<String> {
-    match operation.invoke(alloc, client, input(alloc)?, FUEL) {
+    let input = input(alloc)?;
+    said(alloc, operation.invoke(alloc, client, input, FUEL))
+}
+
+// The output's text, or the error in words.
+fn said<E: Display + Drop>(alloc: Global, answer: Result<Payload, E>) -> Result<String> {
+    match answer {
         Ok(output) => text_of(alloc, output.bytes.as_slice()),
         Err(error) => Ok(format!(in alloc; "{error}")?),
     }

@@ -196,9 +196,18 @@ fn answer(
 
 fn print_row(rt: &HostRuntime, settings: &Settings, row: &Row) -> Result<()> {
     let mut client = Client::new(rt.alloc(), terms(row)?, row.sleeps);
+    print_steps(rt, settings, row, &mut client)
+}
+
+fn print_steps(
+    rt: &HostRuntime,
+    settings: &Settings,
+    row: &Row,
+    client: &mut Client,
+) -> Result<()> {
     println!(rt; "cache: {}, {:?}", row.name, client.cache.terms())?;
     for step in row.steps {
-        let text = answer(rt, &mut client, settings, *step)?;
+        let text = answer(rt, client, settings, *step)?;
         println!(rt; "{step:?}: {text}")?;
     }
     let loads = client.cache.loads();

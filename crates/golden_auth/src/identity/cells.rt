@@ -196,11 +196,15 @@ fn loaded<T: Clone + Drop>(alloc: Global, value: T) -> Result<Option<T>> {
 }
 
 fn print_row(rt: &HostRuntime, row: &Row) -> Result<()> {
-    println!(rt; "cell: {}", row.name)?;
     let mut cell = empty(row.buffer);
+    print_steps(rt, row, &mut cell)
+}
+
+fn print_steps(rt: &HostRuntime, row: &Row, cell: &mut CellCore<u64>) -> Result<()> {
+    println!(rt; "cell: {}", row.name)?;
     let mut caller = Clearing::new();
     for step in row.steps {
-        let text = answer(rt.alloc(), &mut cell, &mut caller, *step)?;
+        let text = answer(rt.alloc(), cell, &mut caller, *step)?;
         println!(rt; "{step:?}: {text}")?;
     }
     println!(rt; "{} loads, {:?}", cell.loads(), cell.events())?;

@@ -59,7 +59,14 @@ pub fn name_of(failing: Failing, phase: Phase, is_held: bool) -> &'static str {
         kind: kind_of(failing),
         text: Text::from_static("x"),
     };
-    match InterceptorContext::sdk_error(fault, phase, response) {
+    let error = InterceptorContext::sdk_error(fault, phase, response);
+    let name = name_in(&error);
+    drop(error);
+    name
+}
+
+fn name_in(error: &SdkError<Payload>) -> &'static str {
+    match error {
         SdkError::ConstructionFailure(_) => "ConstructionFailure",
         SdkError::TimeoutError(_) => "TimeoutError",
         SdkError::DispatchFailure(_) => "DispatchFailure",

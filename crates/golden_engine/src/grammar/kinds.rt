@@ -1,32 +1,15 @@
-//! The kinds of question, each once.
+//! The kinds of question but for the hooks, each once.
 use run_grammar::{Abandonable, ConfigureStage, Kind, Role};
-use smithy_types::Hook;
 
-/// Every kind, in the order in which a run comes to them.
-pub const KINDS: [Kind; 54] = [
+/// The steps of the configuration, which come before the hooks.
+pub const STEPS: &[Kind] = &[
     Kind::Configure(ConfigureStage::Client),
     Kind::Configure(ConfigureStage::Operation),
     Kind::Configure(ConfigureStage::Final),
-    Kind::Hook(Hook::ReadBeforeExecutionClient),
-    Kind::Hook(Hook::ReadBeforeExecutionOperation),
-    Kind::Hook(Hook::ModifyBeforeSerialization),
-    Kind::Hook(Hook::ReadBeforeSerialization),
-    Kind::Hook(Hook::ReadAfterSerialization),
-    Kind::Hook(Hook::ModifyBeforeRetryLoop),
-    Kind::Hook(Hook::ReadBeforeAttempt),
-    Kind::Hook(Hook::ModifyBeforeSigning),
-    Kind::Hook(Hook::ReadBeforeSigning),
-    Kind::Hook(Hook::ReadAfterSigning),
-    Kind::Hook(Hook::ModifyBeforeTransmit),
-    Kind::Hook(Hook::ReadBeforeTransmit),
-    Kind::Hook(Hook::ReadAfterTransmit),
-    Kind::Hook(Hook::ModifyBeforeDeserialization),
-    Kind::Hook(Hook::ReadBeforeDeserialization),
-    Kind::Hook(Hook::ReadAfterDeserialization),
-    Kind::Hook(Hook::ModifyBeforeAttemptCompletion),
-    Kind::Hook(Hook::ReadAfterAttempt),
-    Kind::Hook(Hook::ModifyBeforeCompletion),
-    Kind::Hook(Hook::ReadAfterExecution),
+];
+
+/// The other kinds, in the order in which a run comes to them.
+pub const OTHERS: &[Kind] = &[
     Kind::Serialize,
     Kind::Load,
     Kind::Initial,

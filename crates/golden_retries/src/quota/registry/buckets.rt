@@ -13,7 +13,7 @@ enum Opening {
     Quota(u64),
     /// Without a limit.
     Unlimited,
-    /// By a builder with all of these terms.
+    /// With these terms.
     Terms(BucketTerms),
 }
 
@@ -130,19 +130,8 @@ fn opened(opening: Opening) -> Result<TokenBucket> {
     match opening {
         Opening::Quota(quota) => Ok(TokenBucket::new(quota)?),
         Opening::Unlimited => Ok(TokenBucket::unlimited()),
-        Opening::Terms(terms) => Ok(built(terms)),
+        Opening::Terms(terms) => Ok(TokenBucket::with_terms(terms)),
     }
-}
-
-fn built(terms: BucketTerms) -> TokenBucket {
-    TokenBucket::builder()
-        .capacity(terms.capacity)
-        .retry_cost(terms.retry_cost)
-        .throttling_retry_cost(terms.throttling_retry_cost)
-        .timeout_retry_cost(terms.timeout_retry_cost)
-        .success_reward(terms.success_reward)
-        .refill_rate(terms.refill_rate)
-        .build()
 }
 
 /// A bucket, and the steps on it.
@@ -164,22 +153,16 @@ const TEN: BucketTerms = BucketTerms {
 
 /// Ten tokens, all of which each retry costs.
 const ONE_RETRY: BucketTerms = BucketTerms {
-    capacity: 10,
     retry_cost: 10,
     throttling_retry_cost: 10,
-    timeout_retry_cost: 10,
-    success_reward: 0,
-    refill_rate: 0,
+    ..TEN
 };
 
 /// A hundred tokens, all of which a retry of a transient failure costs.
 const HUNDRED: BucketTerms = BucketTerms {
     capacity: 100,
-    retry_cost: 5,
-    throttling_retry_cost: 5,
     timeout_retry_cost: 100,
-    success_reward: 0,
-    refill_rate: 0,
+    ..TEN
 };
 
 /// All tokens of such a bucket are spent.

@@ -73,7 +73,8 @@ fn print_numbers<Q: Quota>(
 }
 
 fn print_default<Q: Quota>(rt: &HostRuntime, name: &'static str, quota: &mut Q) -> Result<()> {
-    print_numbers(rt, name, quota, &default_partition("test"))
+    let partition = default_partition("test");
+    print_numbers(rt, name, quota, &partition)
 }
 
 fn print_custom<Q: Quota + PartitionRegistry>(

@@ -4,7 +4,7 @@ use crate::quota::registry::registers::two_buckets;
 use anyhow::Result;
 use retry_quota::RetryPartition;
 use smithy_types::OutOfMemory;
-use std::alloc::{AllocError, Global};
+use std::alloc::Global;
 use std::hash::{DefaultHasher, Hash, Hasher};
 
 fn hash_of(partition: &RetryPartition) -> u64 {
@@ -35,8 +35,8 @@ fn named(alloc: Global, name: &'static str) -> Result<RetryPartition, OutOfMemor
     custom_named(&mut two_buckets(alloc)?, alloc, name)
 }
 
-fn copied(partition: &RetryPartition) -> Result<RetryPartition, AllocError> {
-    partition.clone()
+fn copied(partition: &RetryPartition) -> Result<RetryPartition, OutOfMemory> {
+    Ok(partition.clone()?)
 }
 
 /// Prints which partitions are equal and hash equally, and how one is printed.

@@ -134,9 +134,7 @@ fn success_reward<Q: Quota>(quota: &Q, bucket: u32) -> Option<u64> {
 /// a bucket didn't grant.
 pub fn print(rt: &HostRuntime) -> Result<()> {
     print_added(rt)?;
-    let mut registry = two_buckets(rt.alloc())?;
-    print_prices(rt, &registry)?;
-    print_spent(rt, &mut registry)?;
+    print_used(rt, &mut two_buckets(rt.alloc())?)?;
     println!(rt; "a permit that the bucket didn't grant changes nothing")?;
     for (bucket, amount) in FOREIGN {
         print_foreign(rt, *bucket, *amount)?;
@@ -149,6 +147,11 @@ fn print_added(rt: &HostRuntime) -> Result<()> {
     println!(rt; "buckets are numbered as they are added")?;
     println!(rt; "  {first}, {second}")?;
     Ok(())
+}
+
+fn print_used<Q: Quota>(rt: &HostRuntime, quota: &mut Q) -> Result<()> {
+    print_prices(rt, quota)?;
+    print_spent(rt, quota)
 }
 
 fn print_prices<Q: Quota>(rt: &HostRuntime, quota: &Q) -> Result<()> {

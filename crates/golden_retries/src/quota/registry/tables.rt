@@ -49,11 +49,13 @@ fn in_map<R: Wait>(
 pub fn print(rt: &HostRuntime) -> Result<()> {
     println!(rt; "a key keeps its first value in a table")?;
     let mut table = PartitionTable::default();
+    print_calls(rt, &mut table)
+}
+
+fn print_calls(rt: &HostRuntime, table: &mut PartitionTable<char, char>) -> Result<()> {
     for call in CALLS {
-        println!(rt;
-            "  {call:?}: {:?}",
-            in_table(rt.alloc(), &mut table, *call)?
-        )?;
+        let answer = in_table(rt.alloc(), table, *call)?;
+        println!(rt; "  {call:?}: {answer:?}")?;
     }
     Ok(())
 }
@@ -62,11 +64,17 @@ pub fn print(rt: &HostRuntime) -> Result<()> {
 pub fn print_shared<R: Wait>(rt: &HostRuntime, waiting: &R) -> Result<()> {
     println!(rt; "a key keeps its first value in a shared table")?;
     let map = StaticPartitionMap::default();
+    print_shared_calls(rt, waiting, &map)
+}
+
+fn print_shared_calls<R: Wait>(
+    rt: &HostRuntime,
+    waiting: &R,
+    map: &StaticPartitionMap<char, char>,
+) -> Result<()> {
     for call in CALLS {
-        println!(rt;
-            "  {call:?}: {:?}",
-            in_map(waiting, rt.alloc(), &map, *call)?
-        )?;
+        let answer = in_map(waiting, rt.alloc(), map, *call)?;
+        println!(rt; "  {call:?}: {answer:?}")?;
     }
     let value = map.get_or_init_default(waiting, rt.alloc(), 'C')?;
     println!(rt; "  GetOrInitDefault('C'): {value:?}")?;
