@@ -5,13 +5,15 @@ Beside a script `NAME.json` stand its status in `NAME.status` and its whole prin
 `NAME.moments` has that print with the moments of its entries, worked out by hand.
 Clients in examples/client/rows/ and examples/client/schemes/ have facts or requests in place of a
 print, which the module `clients` compares.
+Of a host the lines stand in `NAME.lines`, and what it is told in `NAME.txt`.
 """
 import pathlib
 
 from .support.program import EXAMPLES, ProgramTest, run
 
 SCRIPTS = sorted(EXAMPLES.rglob("*.json"))
-ENDINGS = {".json", ".status", ".txt", ".facts", ".requests", ".moments"}
+CONVERSATIONS = sorted(EXAMPLES.rglob("*.lines"))
+ENDINGS = {".json", ".lines", ".status", ".txt", ".facts", ".requests", ".moments"}
 
 
 def name_of(path: pathlib.Path) -> str:
@@ -37,6 +39,13 @@ class ExampleTest(ProgramTest):
                 if has_print(script):
                     self.assertEqual(ran.output, script.with_suffix(".txt").read_text())
 
+    def test_each_conversation_is_answered_by_its_lines(self):
+        for lines in CONVERSATIONS:
+            with self.subTest(name_of(lines)):
+                ran = run("serve", text=lines.read_text())
+                self.assertEqual(f"{ran.status}\n", lines.with_suffix(".status").read_text())
+                self.assertEqual(ran.output, lines.with_suffix(".txt").read_text())
+
     def test_check_says_yes_of_each_print_of_replay(self):
         for printed in sorted(EXAMPLES.glob("*.txt")):
             with self.subTest(name_of(printed)):
@@ -53,4 +62,5 @@ class ExampleTest(ProgramTest):
         for path in sorted(EXAMPLES.rglob("*.*")):
             with self.subTest(name_of(path)):
                 self.assertIn(path.suffix, ENDINGS)
-                self.assertTrue(path.with_suffix(".json").exists(), "it stands beside no script")
+                beside = [path.with_suffix(".json"), path.with_suffix(".lines")]
+                self.assertTrue(any(it.exists() for it in beside), "it stands beside no script")
