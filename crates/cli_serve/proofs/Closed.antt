@@ -12,7 +12,8 @@ use Rattle.cli_client.specs.Means.{NoClassifier, NoInterceptor, none, own_chain,
 use Rattle.cli_shell.specs.declared.status.Ended.{Ended}
 use Rattle.cli_serve.specs.Conversing.{OpensAndServes, Place, ServesHost, ServesSession}
 use Rattle.cli_serve.specs.Means.{hosted_means}
-use Rattle.cli_serve.specs.Opening.{BuildsClient, Opens, ServedClient}
+use Rattle.host_session.specs.declared.session.Session.{Session}
+use Rattle.cli_serve.specs.Opening.{Opens, ServedClient}
 use Rattle.cli_serve.specs.declared.description.HostDescription.{HostDescription}
 
 nobody : NoClassifier → ⊥
@@ -48,15 +49,11 @@ module _ (d : HostDescription) (ended : Ended) (old new : Place) where
       (subst (λ x. ServesBy v w own_ranked x chain) (all_says nobody says s)
       (subst (λ x. ServesBy v w x says chain) (ranks nobody ranked r) h)))
 
--- so it is of a client that was built and served
-pub closed_client : (d : HostDescription) (ended : Ended) (old new : Place) (v : NoClassifier → Type 0) (w : NoInterceptor → Type 0) (ranked : Classifier ServiceError NoClassifier v → ℤ)
+-- so it is of a session that was opened and served
+pub closed_session : (d : HostDescription) (ended : Ended) (old new : Place) (v : NoClassifier → Type 0) (w : NoInterceptor → Type 0) (ranked : Classifier ServiceError NoClassifier v → ℤ)
     (says : Classifier ServiceError NoClassifier v → InterceptorContext → RetryAction → RetryAction) (chain : InterceptorMeans (Slot OwnInterceptor NoInterceptor w))
-    (client : ServedClient (Classifier ServiceError NoClassifier v) (Slot OwnInterceptor NoInterceptor w)) →
-    BuildsClient {V = NoClassifier} {W = NoInterceptor} {v = v} {w = w} ranked d client →
-    ServesSession (hosted_means says chain) (record { world = client; run = None; kinds = record { output = 1; error = 2 } }) ended old new → Ranks ranked → Says says → Intercepts chain → ServesHost d ended old new
-closed_client d ended old new v w ranked says chain client built serves r s n =
-    closed d ended old new v w ranked says chain r s n (record {
-      session = record { world = client; run = None; kinds = record { output = 1; error = 2 } };
-      is_opened = record { client = built; run = refl; kinds = refl };
-      serves = serves;
-    })
+    (session : Session (ServedClient (Classifier ServiceError NoClassifier v) (Slot OwnInterceptor NoInterceptor w))) →
+    Opens {V = NoClassifier} {W = NoInterceptor} {v = v} {w = w} ranked d session →
+    ServesSession (hosted_means says chain) session ended old new → Ranks ranked → Says says → Intercepts chain → ServesHost d ended old new
+closed_session d ended old new v w ranked says chain session opened serves r s n =
+    closed d ended old new v w ranked says chain r s n (record { session = session; is_opened = opened; serves = serves })

@@ -1,5 +1,5 @@
 -- How a host is served, from its first line on.
-use Rattle.std.proofs.Common.{◌≡◌, ℕ, Bool, true, false, List, [], Some, None, refl, sym, ◌∙◌, subst, inl, inr}
+use Rattle.std.proofs.Common.{◌≡◌, ℕ, Bool, true, false, List, [], length, Some, None, refl, sym, ◌∙◌, subst, inl, inr}
 use Rattle.json_forms.specs.Lines.{line}
 use Rattle.json_host.specs.Replies.{opened_data}
 use Rattle.cli_shell.specs.Sink.{SinkView, Adds}
@@ -13,40 +13,37 @@ use Rattle.host_session.specs.Lines.{LosesLine, TakesNext}
 use Rattle.host_session.specs.Meaning.{HostedMeaning}
 use Rattle.host_session.specs.Talking.{Talks, stand}
 use Rattle.host_session.specs.declared.session.Session.{Session}
-use Rattle.cli_serve.specs.Conversing.{Converses, IsUntold, Place, ServesDescription, ServesFitting, ServesHost, ServesLine, ServesSession, place}
+use Rattle.cli_serve.specs.Conversing.{Converses, IsUntold, Place, ServesDescription, ServesHost, ServesLine, ServesSession, place}
 use Rattle.cli_serve.specs.Description.{IsDescription, description_fits}
 use Rattle.cli_serve.specs.declared.description.HostDescription.{HostDescription}
 
 module _ {W : Type 0} (means : HostedMeaning W) where
   -- the host was told that its session is open
   pub greeted : (ended : Ended) (old new : Session W) (unread left : List ℕ) (before after : SourceView) (sink told sink_after : SinkView) →
-      Adds sink (line (opened_data 1)) told → Talks means ended (stand old unread before told) (stand new left after sink_after) →
+      Adds sink (line (opened_data (length old.seats.items))) told → Talks means ended (stand old unread before told) (stand new left after sink_after) →
       ServesSession means old ended (place unread before sink) (place left after sink_after)
   greeted ended old new unread left before after sink told sink_after writes talks =
       inl (record { greeted = told; writes = writes; left = new; talks = talks })
 
   -- it wasn't
-  pub mute : (status : ShellStatus) (session : Session W) (unread : List ℕ) (before : SourceView) (sink sink_after : SinkView) → IsUntold status sink sink_after →
+  pub mute : (status : ShellStatus) (session : Session W) (unread : List ℕ) (before : SourceView) (sink sink_after : SinkView) → IsUntold (length session.seats.items) status sink sink_after →
       ServesSession means session (Shell status) (place unread before sink) (place unread before sink_after)
   mute status session unread before sink sink_after h = inr (h, refl)
 
--- a description is within its limits
-pub served : (d : HostDescription) (fits : Bool) (ended : Ended) (old new : Place) → fits ≡ description_fits d → fits ≡ true → ServesFitting d ended old new →
+-- a description is within its limits, and its host is served
+pub served : (d : HostDescription) (fits : Bool) (ended : Ended) (old new : Place) → fits ≡ description_fits d → fits ≡ true → ServesHost d ended old new →
     ServesDescription d ended old new
-served d fits ended old new is so h = inr (sym is ∙ so, h)
+served d fits ended old new is so h = inr (sym is ∙ so, inl h)
+
+-- it is within its limits, and there is no memory for its session
+pub no_session : (d : HostDescription) (fits : Bool) (old new : Place) → fits ≡ description_fits d → fits ≡ true → new ≡ old →
+    ServesDescription d (Shell shells.OutOfMemory) old new
+no_session d fits old new is so stays = inr (sym is ∙ so, inr (refl, stays))
 
 -- it passes one
 pub too_large : (d : HostDescription) (fits : Bool) (old : Place) → fits ≡ description_fits d → fits ≡ false →
     ServesDescription d (Refused refusals.TooLarge) old old
 too_large d fits old is not_so = inl (sym is ∙ not_so, refl, refl)
-
--- its host is served
-pub fitting : (d : HostDescription) (ended : Ended) (old new : Place) → ServesHost d ended old new → ServesFitting d ended old new
-fitting d ended old new h = inl h
-
--- there is no memory for its session
-pub no_session : (d : HostDescription) (old new : Place) → new ≡ old → ServesFitting d (Shell shells.OutOfMemory) old new
-no_session d old new stays = inr (refl, stays)
 
 -- the first line is no description
 pub no_description : (first : List ℕ) (old : Place) → ((d : HostDescription) → IsDescription first d → ⊥) → ServesLine first (Refused refusals.BadScript) old old
@@ -82,5 +79,7 @@ no_first none left before after sink empty ends =
     record { unread = left; goes = inl (subst (λ (n : List ℕ). TakesNext n before None left after) empty ends, refl) }
 
 -- it can't be read
-pub lost_first : (status : ShellStatus) (before after : SourceView) (sink : SinkView) → LosesLine status before after → Converses (Shell status) before after sink sink
-lost_first status before after sink lost = record { unread = []; goes = inl (lost, refl) }
+pub lost_first : (status : ShellStatus) (none : List ℕ) (before after : SourceView) (sink : SinkView) → none ≡ [] → LosesLine none status before after →
+    Converses (Shell status) before after sink sink
+lost_first status none before after sink empty lost =
+    record { unread = []; goes = inl (subst (λ (n : List ℕ). LosesLine n status before after) empty lost, refl) }

@@ -1,5 +1,5 @@
 -- What serving a host does to its source and its sink.
-use Rattle.std.specs.Prelude.{◌≡◌, ◌⊎◌, ℕ, true, false, List, []}
+use Rattle.std.specs.Prelude.{◌≡◌, ◌⊎◌, ℕ, true, false, List, [], length}
 use Rattle.json_forms.specs.Lines.{line}
 use Rattle.json_host.specs.Replies.{opened_data}
 use Rattle.cli_shell.specs.Sink.{SinkView, Adds, AddsFront}
@@ -33,29 +33,31 @@ pub record Place : Type 0 where
 abbrev pub place : List ℕ → SourceView → SinkView → Place
 place unread source sink = record { unread = unread; source = source; sink = sink }
 
--- the host can't be told that its session is open, for want of memory or since the sink failed
-abbrev pub IsUntold : ShellStatus → SinkView → SinkView → Type 0
-IsUntold shells.WriteFault old new = AddsFront old (line (opened_data 1)) new × Rose old.faults new.faults
-IsUntold shells.OutOfMemory old new = new ≡ old
-IsUntold _ old new = ⊥
+-- the host can't be told that so many seats are open, for want of memory or since the sink failed
+abbrev pub IsUntold : ℕ → ShellStatus → SinkView → SinkView → Type 0
+IsUntold seats shells.WriteFault old new = AddsFront old (line (opened_data seats)) new × Rose old.faults new.faults
+IsUntold seats shells.OutOfMemory old new = new ≡ old
+IsUntold seats _ old new = ⊥
 
 -- so it is, and no further line is read
-abbrev pub IsMute : Ended → Place → Place → Type 0
-IsMute (Shell status) old new = IsUntold status old.sink new.sink × (new ≡ record old { sink = new.sink })
-IsMute _ old new = ⊥
+abbrev pub IsMute : ℕ → Ended → Place → Place → Type 0
+IsMute seats (Shell status) old new =
+    IsUntold seats status old.sink new.sink × (new ≡ record old { sink = new.sink })
+IsMute seats _ old new = ⊥
 
 module _ {W : Type 0} (means : HostedMeaning W) where
-  -- The host is told that its session is open, and then of each of its lines what feeding it tells.
+  -- The host is told how many seats are open, and then of each of its lines what feeding it tells.
   pub record Greets (session : Session W) (ended : Ended) (old new : Place) : Type 0 where
     pub greeted : SinkView
-    pub writes : Adds old.sink (line (opened_data 1)) greeted
+    pub writes : Adds old.sink (line (opened_data (length session.seats.items))) greeted
     pub left : Session W
     pub talks : Talks means ended (stand session old.unread old.source greeted)
         (stand left new.unread new.source new.sink)
 
   -- what serving a session comes to
   abbrev pub ServesSession : Session W → Ended → Place → Place → Type 0
-  ServesSession session ended old new = Greets session ended old new ⊎ IsMute ended old new
+  ServesSession session ended old new =
+      Greets session ended old new ⊎ IsMute (length session.seats.items) ended old new
 
   -- such a session is opened, and served
   pub record OpensAndServes (opened : Session W → Type 0) (ended : Ended) (old new : Place) : Type 0 where
@@ -63,7 +65,7 @@ module _ {W : Type 0} (means : HostedMeaning W) where
     pub is_opened : opened session
     pub serves : ServesSession session ended old new
 
--- The session of a description is opened, and served. Its client holds no box, so it doesn't matter what one would say.
+-- The session of a description is opened, and served. No client holds a box, so it doesn't matter what one would say.
 abbrev pub ServesHost : HostDescription → Ended → Place → Place → Type 0
 ServesHost d ended old new =
     OpensAndServes
@@ -74,18 +76,16 @@ ServesHost d ended old new =
 -- there is no first line
 abbrev pub LacksLine : Ended → Place → Place → Type 0
 LacksLine (Refused refusals.BadScript) old new = EndsUnread old.unread old.source new.source × (new.sink ≡ old.sink)
-LacksLine (Shell status) old new = LosesLine status old.source new.source × (new.sink ≡ old.sink)
+LacksLine (Shell status) old new = LosesLine old.unread status old.source new.source × (new.sink ≡ old.sink)
 LacksLine _ old new = ⊥
 
--- what a description within its limits comes to: its host is served, or there is no memory for its session
-abbrev pub ServesFitting : HostDescription → Ended → Place → Place → Type 0
-ServesFitting d ended old new = ServesHost d ended old new ⊎ ((ended ≡ Shell shells.OutOfMemory) × (new ≡ old))
-
--- what a description comes to: it passes a limit, or it is within them
+-- what a description comes to: it passes a limit, or it is within them and its host is served, or there is no memory
+-- for its session
 abbrev pub ServesDescription : HostDescription → Ended → Place → Place → Type 0
 ServesDescription d ended old new =
     ((description_fits d ≡ false) × (ended ≡ Refused refusals.TooLarge) × (new ≡ old))
-    ⊎ ((description_fits d ≡ true) × ServesFitting d ended old new)
+    ⊎ ((description_fits d ≡ true)
+    × (ServesHost d ended old new ⊎ ((ended ≡ Shell shells.OutOfMemory) × (new ≡ old))))
 
 -- what a first line comes to: it is a description, or it is none, or there is no memory to read it
 abbrev pub ServesLine : List ℕ → Ended → Place → Place → Type 0

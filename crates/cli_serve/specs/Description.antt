@@ -16,6 +16,7 @@ use Rattle.json_scripts.specs.declared.client.terms.ClientObject.{ClientObject}
 use Rattle.json_values.specs.Readings.{headers_at}
 use Rattle.host_session.specs.declared.service.deserializer.ErrorRule.{ErrorRule}
 use Rattle.cli_serve.specs.declared.description.HostDescription.{HostDescription}
+use Rattle.cli_serve.specs.declared.description.SeatDescription.{SeatDescription}
 
 -- the status, the headers and the word of a response, or null for no word, and the name of the error that it is
 unfoldable pub rule_at : Data → Option ErrorRule
@@ -35,17 +36,30 @@ unheld c = if c.rules.flags.enforce then None else Some c
 unfoldable pub unheld_at : ℕ → Data → Option ClientObject
 unheld_at buckets d = client_at buckets d >>= unheld
 
--- five members, each of its form; the client's bucket is one of those
+-- three members, each of its form: a seat of a description with so many buckets
+unfoldable pub seat_at : ℕ → Data → Option SeatDescription
+seat_at buckets d = members_at 3 d >>= λ _. get (codes "seed") d >>= number_at >>= λ n.
+    get (codes "client") d >>= unheld_at buckets >>= λ c. get (codes "errors") d >>= rules_at >>= λ es.
+    Some (record { client = c; errors = es; seed = n })
+
+-- some of them, in order
+unfoldable pub seats_at : ℕ → Data → Option (List SeatDescription)
+seats_at buckets d = as_array d >>= list_of (seat_at buckets)
+
+-- three members, each of its form; the clients' buckets are some of those
 unfoldable pub description_at : Data → Option HostDescription
-description_at d = members_at 5 d >>= λ _. get (codes "start") d >>= number_at >>= λ s.
-    get (codes "seed") d >>= number_at >>= λ n. get (codes "buckets") d >>= buckets_at >>= λ bs.
-    get (codes "client") d >>= unheld_at (length bs) >>= λ c. get (codes "errors") d >>= rules_at >>= λ es.
-    Some (record { buckets = bs; start = s; seed = n; client = c; errors = es })
+description_at d = members_at 3 d >>= λ _. get (codes "start") d >>= number_at >>= λ s.
+    get (codes "buckets") d >>= buckets_at >>= λ bs. get (codes "clients") d >>= seats_at (length bs) >>= λ cs.
+    Some (record { buckets = bs; start = s; seats = cs })
 
 -- the line is the text of this description
 abbrev pub IsDescription : List ℕ → HostDescription → Type 0
 IsDescription line d = IsUtf8 line × ((read line >>= description_at) ≡ Some d)
 
--- its buckets and its client are within the limits of a script
+-- its client is within the limits of a script
+abbrev pub seat_fits : SeatDescription → Bool
+seat_fits seat = client_fits seat.client
+
+-- so are its buckets and its clients
 abbrev pub description_fits : HostDescription → Bool
-description_fits d = list_all capacity_fits d.buckets && client_fits d.client
+description_fits d = list_all capacity_fits d.buckets && list_all seat_fits d.seats

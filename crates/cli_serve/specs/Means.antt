@@ -40,7 +40,8 @@ module _ {C I : Type 0} (says : C → InterceptorContext → RetryAction → Ret
     deserializes = λ deserializer response settings outcome. outcome ≡ read_outcome deserializer.rules response;
   }
 
-  -- the meaning of the client: each entry of its log is answered from its parts, and a host changes its outside alone
+  -- the meaning of the client: each entry of its log is answered from its parts, and a host changes its outside and its
+  -- quota alone
   abbrev pub hosted_means : HostedMeaning (ServedClient C I)
   hosted_means = record {
     calls = λ c. c.components.log;
@@ -49,6 +50,10 @@ module _ {C I : Type 0} (says : C → InterceptorContext → RetryAction → Ret
     outside = λ c. c.components.parts.outside;
     with_outside = λ outside c. record c {
       components = record c.components { parts = record c.components.parts { outside = outside } };
+    };
+    quota = λ c. c.components.parts.quota;
+    with_quota = λ quota c. record c {
+      components = record c.components { parts = record c.components.parts { quota = quota } };
     };
     emptied = λ c. record c { components = record c.components { log = [] } };
     rests = λ old new.

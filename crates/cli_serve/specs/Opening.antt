@@ -1,5 +1,5 @@
 -- The session that a host begins with.
-use Rattle.std.specs.Prelude.{◌≡◌, ℕ, ℤ, false, List, [], Option, Some, None}
+use Rattle.std.specs.Prelude.{◌≡◌, ℕ, ◌+◌, ℤ, false, List, [], ◌∷◌, Option, Some, None}
 use Rattle.smithy_types.specs.declared.partition.RetryPartition.{RetryPartition}
 use Rattle.smithy_types.specs.declared.payload.Payload.{Payload}
 use Rattle.smithy_base.specs.declared.intercept.Slot.{Slot}
@@ -26,8 +26,10 @@ use Rattle.host_session.specs.declared.hosted.HostedClient.{HostedClient}
 use Rattle.host_session.specs.declared.service.deserializer.ErrorRule.{ErrorRule}
 use Rattle.host_session.specs.declared.service.deserializer.HostedDeserializer.{HostedDeserializer}
 use Rattle.host_session.specs.declared.service.serializer.HostedSerializer.{HostedSerializer}
+use Rattle.host_session.specs.declared.seat.Seat.{Seat}
 use Rattle.host_session.specs.declared.session.Session.{Session}
 use Rattle.cli_serve.specs.declared.description.HostDescription.{HostDescription}
+use Rattle.cli_serve.specs.declared.description.SeatDescription.{SeatDescription}
 
 -- the builder of a host's client, where V and W are what boxed classifiers and interceptors would be
 abbrev pub ServedBuilder : (V W : Type 0) → (V → Type 0) → (W → Type 0) → Type 0
@@ -85,20 +87,39 @@ module _ {V W : Type 0} {v : V → Type 0} {w : W → Type 0} where
     types = record {};
   }
 
-  -- The client of a description is built over its buckets and a fresh outside.
-  pub record BuildsClient (ranked : Classifier ServiceError V v → ℤ) (d : HostDescription)
-      (client : ServedClient (Classifier ServiceError V v) (Slot OwnInterceptor W w)) : Type 0 where
+  -- The client of a seat is built over a fresh outside and a quota of its own. Its custom partition gets a limiter of
+  -- its own in the shared quota.
+  pub record BuildsClient (ranked : Classifier ServiceError V v → ℤ) (start : ℕ) (old : Registers Pace)
+      (d : SeatDescription) (client : ServedClient (Classifier ServiceError V v) (Slot OwnInterceptor W w))
+      (new : Registers Pace) : Type 0 where
     pub partition : Option RetryPartition
-    pub quota : Registers Pace
-    pub registered : PartitionOf d.client.target.service d.client.rules.bucket (quota_of d.buckets) partition quota
+    pub registered : PartitionOf d.client.target.service d.client.rules.bucket old partition new
     pub outside : HostedOutside
-    pub fresh : IsFresh d.start d.seed outside
+    pub fresh : IsFresh start d.seed outside
+    pub quota : Registers Pace
     pub built : IsBuiltFrom ranked (served_builder (builder_of partition d.client) d.errors) outside quota
         client.components
 
-  -- The session is that of such a client, and no run is under way.
-  pub record Opens (ranked : Classifier ServiceError V v → ℤ) (d : HostDescription)
-      (session : Session (ServedClient (Classifier ServiceError V v) (Slot OwnInterceptor W w))) : Type 0 where
-    pub client : BuildsClient ranked d session.world
-    pub run : session.run ≡ None
-    pub kinds : session.kinds ≡ record { output = 1; error = 2 }
+  -- The seat is of such a client and has this number, and no run is under way.
+  pub record OpensSeat (ranked : Classifier ServiceError V v → ℤ) (start number : ℕ) (old : Registers Pace)
+      (d : SeatDescription) (seat : Seat (ServedClient (Classifier ServiceError V v) (Slot OwnInterceptor W w)))
+      (new : Registers Pace) : Type 0 where
+    pub client : BuildsClient ranked start old d seat.world new
+    pub run : seat.run ≡ None
+    pub terms : seat.terms ≡ record { number = number; output_kind = 1; error_kind = 2 }
+
+  -- the seats of these descriptions, from this number on, one after another
+  abbrev pub OpensSeats : (Classifier ServiceError V v → ℤ) → ℕ → ℕ → Registers Pace → List SeatDescription
+      → List (Seat (ServedClient (Classifier ServiceError V v) (Slot OwnInterceptor W w))) → Registers Pace → Type 0
+  OpensSeats ranked start number old [] [] new = new ≡ old
+  OpensSeats ranked start number old (d ∷ ds) (seat ∷ seats) new =
+      (mid : Registers Pace) × OpensSeat ranked start number old d seat mid
+      × OpensSeats ranked start (number + 1) mid ds seats new
+  OpensSeats ranked start number old [] (seat ∷ seats) new = ⊥
+  OpensSeats ranked start number old (d ∷ ds) [] new = ⊥
+
+  -- The session has the seats of a description, numbered from 0 on, and the quota that is left of its buckets.
+  abbrev pub Opens : (Classifier ServiceError V v → ℤ) → HostDescription
+      → Session (ServedClient (Classifier ServiceError V v) (Slot OwnInterceptor W w)) → Type 0
+  Opens ranked d session =
+      OpensSeats ranked d.start 0 (quota_of d.buckets) d.seats session.seats.items session.quota

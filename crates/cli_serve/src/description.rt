@@ -1,12 +1,13 @@
-//! What a host begins with: its client, the client's buckets, the present moment and a seed.
+//! What a host begins with: its clients, their buckets and the present moment.
 ghost use Rattle.std.specs.Prelude.{◌≡◌, IfOk, IsErrOf};
 ghost use Rattle.std.specs.List.{list_all};
 ghost use Rattle.json_forms.specs.View.{view, items_view};
 ghost use Rattle.json_forms.specs.Forms.{blob_at, optional_at};
 ghost use Rattle.json_forms.specs.Lists.{list_of};
 ghost use Rattle.json_forms.specs.Reading.{Reads};
-ghost use Rattle.cli_serve.specs.Description.{IsDescription, description_at, rule_at, rules_at};
-ghost use Rattle.cli_serve.specs.Description.{description_fits, unheld_at};
+ghost use Rattle.cli_serve.specs.Description.{IsDescription, description_at, description_fits};
+ghost use Rattle.cli_serve.specs.Description.{rule_at, rules_at, seat_at, seat_fits, seats_at};
+ghost use Rattle.cli_serve.specs.Description.{unheld_at};
 ghost use Rattle.json_scripts.specs.Client.Limits.{capacity_fits};
 
 use host_session::service::ErrorRule;
@@ -22,22 +23,32 @@ use smithy_types::{Blob, List};
 use std::alloc::Global;
 
 /// How many members a description has.
-const DESCRIPTION_MEMBERS: usize = 5;
+const DESCRIPTION_MEMBERS: usize = 3;
+
+/// How many members the description of a seat has.
+const SEAT_MEMBERS: usize = 3;
 
 /// What a host begins with.
 #[derive(Drop)]
 pub struct HostDescription {
-    /// The token buckets, of which the client may name one.
+    /// The token buckets, which the clients may name.
     pub buckets: List<BucketTerms>,
     /// The present moment, in nanoseconds.
     pub start: u64,
-    /// What the random words are made of.
-    pub seed: u64,
+    /// The seats, in the order of their numbers.
+    pub seats: List<SeatDescription>,
+}
+
+/// A seat, which is for one client.
+#[derive(Drop)]
+pub struct SeatDescription {
     /// The client. It doesn't hold the length of a response to its header, since of a long body a
     /// part stays with the host.
     pub client: ClientObject,
     /// Which responses are errors of a name: the first rule that a response meets gives it.
     pub errors: List<ErrorRule>,
+    /// What the client's random words are made of.
+    pub seed: u64,
 }
 
 // Bytes, or null.
@@ -103,22 +114,62 @@ fn read_unheld(alloc: Global, buckets: usize, value: &Value) -> Result<ClientObj
     }
 }
 
+#[tactic(auto, unfolding(crate::specs::Description::seat_at))]
+fn read_seat(alloc: Global, buckets: usize, value: &Value) -> Result<SeatDescription, ReadError>
+    ensures { Reads result (seat_at buckets (view value.now)) }
+{
+    exact_members(alloc, SEAT_MEMBERS, value)?;
+    let seed = read::number(read::member(value, "seed")?)?;
+    let client = read_unheld(alloc, buckets, read::member(value, "client")?)?;
+    let errors = read_rules(alloc, read::member(value, "errors")?)?;
+    Ok(SeatDescription {
+        client,
+        errors,
+        seed,
+    })
+}
+
+#[tactic(auto, using(json_forms::proofs::ReadLists::list_reading))]
+fn seat_items(
+    alloc: Global,
+    buckets: usize,
+    items: &[Value],
+) -> Result<List<SeatDescription>, ReadError>
+    ensures { Reads result (list_of (seat_at buckets) (items_view items.now)) }
+{
+    let mut list = List::new();
+    for value in items {
+        match read_seat(alloc, buckets, value) {
+            Ok(seat) => list.push(alloc, seat)?,
+            Err(error) => return Err(error),
+        }
+    }
+    Ok(list)
+}
+
+#[tactic(auto, unfolding(crate::specs::Description::seats_at))]
+fn read_seats(
+    alloc: Global,
+    buckets: usize,
+    value: &Value,
+) -> Result<List<SeatDescription>, ReadError>
+    ensures { Reads result (seats_at buckets (view value.now)) }
+{
+    seat_items(alloc, buckets, read::items(value)?)
+}
+
 #[tactic(auto, unfolding(crate::specs::Description::description_at))]
 fn read_value(alloc: Global, value: &Value) -> Result<HostDescription, ReadError>
     ensures { Reads result (description_at (view value.now)) }
 {
     exact_members(alloc, DESCRIPTION_MEMBERS, value)?;
     let start = read::number(read::member(value, "start")?)?;
-    let seed = read::number(read::member(value, "seed")?)?;
     let buckets = read_buckets(alloc, read::member(value, "buckets")?)?;
-    let client = read_unheld(alloc, buckets.len(), read::member(value, "client")?)?;
-    let errors = read_rules(alloc, read::member(value, "errors")?)?;
+    let seats = read_seats(alloc, buckets.len(), read::member(value, "clients")?)?;
     Ok(HostDescription {
         buckets,
         start,
-        seed,
-        client,
-        errors,
+        seats,
     })
 }
 
@@ -138,15 +189,21 @@ pub fn read_description(
 }
 
 /// Whether the description is within the limits of a script: the capacities of its buckets, and the
-/// texts of its client.
+/// texts of its clients.
 pub fn description_fits(description: &HostDescription) -> bool
     ensures { result ≡ description_fits description.now }
 {
-    capacities_fit(description.buckets.as_slice()) && client_fits(&description.client)
+    capacities_fit(description.buckets.as_slice()) && seats_fit(description.seats.as_slice())
 }
 
 fn capacities_fit(buckets: &[BucketTerms]) -> bool
     ensures { result ≡ list_all capacity_fits buckets.now }
 {
     buckets.iter().all(|terms| capacity_fits(terms))
+}
+
+fn seats_fit(seats: &[SeatDescription]) -> bool
+    ensures { result ≡ list_all seat_fits seats.now }
+{
+    seats.iter().all(|seat| client_fits(&seat.client))
 }

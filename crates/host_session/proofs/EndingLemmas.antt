@@ -1,4 +1,4 @@
--- How a run of a session ends.
+-- How a run of a seat ends.
 use Rattle.std.specs.Prelude.{◌≡◌, List, [], Some, Result}
 use Rattle.std.proofs.Common.{sym, subst}
 use Rattle.smithy_context.specs.declared.context.InterceptorContext.{InterceptorContext}
@@ -14,7 +14,7 @@ use Rattle.json_print.specs.Endings.{ending_of, stopped_ending_of}
 use Rattle.json_print.specs.declared.ending.Ending.{Ending}
 use Rattle.host_session.specs.Ending.{EndsBy}
 use Rattle.host_session.specs.Running.{calls_of}
-use Rattle.host_session.specs.declared.session.SeatRun.{SeatRun}
+use Rattle.host_session.specs.declared.seat.SeatRun.{SeatRun}
 
 -- a run to its end
 pub ended : (run : SeatRun) (r : Result Payload (InvokeError Payload)) (e : Ending) → run.head.stop ≡ stops.None →

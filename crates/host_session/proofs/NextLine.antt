@@ -1,12 +1,12 @@
 -- How a line is read, piece by piece.
-use Rattle.std.proofs.Common.{◌≡◌, ℕ, ◌≤◌, ◌==◌, ◌||◌, Bool, true, false, List, [], ◌∷◌, ◌++◌, length, Option, Some, None, refl, sym, ap, ◌∙◌, subst, append_assoc, append-nil, inl, inr, arith}
+use Rattle.std.proofs.Common.{◌≡◌, ℕ, ◌<◌, ◌≤◌, ◌==◌, ◌||◌, Bool, true, false, List, [], ◌∷◌, ◌++◌, length, Option, Some, None, refl, sym, ap, ◌∙◌, subst, append_assoc, append-nil, inl, inr, arith}
 use Rattle.std.specs.Io.KnownBytes.{Consumes, IsAtEnd, Keeps}
 use Rattle.std.specs.List.{list_any}
 use Rattle.std.proofs.KnownBytes.{Consumes-kept, Consumes-nil, Consumes-trans}
 use Rattle.cli_shell.specs.Source.{SourceView, Rose}
 use Rattle.cli_shell.specs.declared.status.ShellStatus.{ShellStatus}
 use Rattle.cli_shell.specs.declared.status.ShellStatus.TheVariants as shells
-use Rattle.host_session.specs.Lines.{Grows, HasNoFeed, LosesLine, ReadsFrom, ReadsOn, Splits, TakesNext}
+use Rattle.host_session.specs.Lines.{BeginsLong, Grows, HasNoFeed, LosesFrom, LosesLine, ReadsFrom, ReadsOn, Splits, TakesNext}
 
 or_false : (a b : Bool) → (a || b) ≡ false → (a ≡ false) × (b ≡ false)
 or_false true b h = absurd (cc h)
@@ -50,19 +50,46 @@ from_source unread front mid new None before after h (came, taken, split, end) =
 from_source unread front mid new (Some behind) before after h (came, taken, split) = (came, taken, splits_more unread came front mid new (Some behind) h split)
 
 -- nothing is lost where nothing was read
-pub lost_before : (before : SourceView) → LosesLine shells.OutOfMemory before before
-unfolding LosesLine
-lost_before before = ([], Consumes-nil before.left)
+pub lost_before : (unread front : List ℕ) (before : SourceView) → LosesFrom unread front shells.OutOfMemory before before
+unfolding LosesFrom
+lost_before unread front before = ([], Consumes-nil before.left)
 
 -- the source failed, and nothing was read
-pub read_failed : (before after : SourceView) → Keeps before.left after.left → Rose before.faults after.faults → LosesLine shells.ReadFault before after
-unfolding LosesLine
-read_failed before after kept rose = (([], Consumes-kept before.left before.left after.left [] (Consumes-nil before.left) kept), rose)
+pub read_failed : (unread front : List ℕ) (before after : SourceView) → Keeps before.left after.left → Rose before.faults after.faults →
+    LosesFrom unread front shells.ReadFault before after
+unfolding LosesFrom
+read_failed unread front before after kept rose = (([], Consumes-kept before.left before.left after.left [] (Consumes-nil before.left) kept), rose)
 
 -- something was read
-pub piece_lost : (before after : SourceView) (bytes : List ℕ) → Consumes before.left after.left bytes → LosesLine shells.OutOfMemory before after
-unfolding LosesLine
-piece_lost before after bytes taken = (bytes, taken)
+pub piece_lost : (unread front : List ℕ) (before after : SourceView) (bytes : List ℕ) → Consumes before.left after.left bytes →
+    LosesFrom unread front shells.OutOfMemory before after
+unfolding LosesFrom
+piece_lost unread front before after bytes taken = (bytes, taken)
+
+-- what is lost behind the bytes that were unread
+pub lost_behind : (e : ShellStatus) (unread front mid : List ℕ) (before after : SourceView) → Splits unread front None mid →
+    LosesFrom [] mid e before after → LosesFrom unread front e before after
+unfolding LosesFrom Splits
+lost_behind shells.ReadFault unread front mid before after split lost = lost
+lost_behind shells.LongInput unread front mid before after (none, same) (came, taken, clean, long) = (
+  came,
+  taken,
+  no_feed_more unread came none clean,
+  subst (λ (bytes : List ℕ). 16777216 < length bytes) (ap (λ l. l ++ came) same ∙ append_assoc front unread came) long,
+)
+lost_behind shells.OutOfMemory unread front mid before after split lost = lost
+lost_behind shells.BadWords unread front mid before after split lost = absurd lost
+lost_behind shells.WriteFault unread front mid before after split lost = absurd lost
+
+-- a line that was lost from its beginning on
+pub lost_line : (e : ShellStatus) (unread : List ℕ) (before after : SourceView) → LosesFrom unread [] e before after → LosesLine unread e before after
+unfolding LosesFrom LosesLine
+lost_line shells.ReadFault unread before after lost = lost
+lost_line shells.LongInput unread before after (came, taken, clean, long) =
+    (came, taken, record { front = unread ++ came; rest = []; parts = sym (append-nil (unread ++ came)); whole = clean; bound = long })
+lost_line shells.OutOfMemory unread before after lost = lost
+lost_line shells.BadWords unread before after lost = absurd lost
+lost_line shells.WriteFault unread before after lost = absurd lost
 
 -- ---- a piece
 
@@ -119,28 +146,42 @@ rose_more first mid after n (inr k) = inr k
 
 -- what is lost later is lost
 pub lost_more : (e : ShellStatus) (before mid after : SourceView) (front held : List ℕ) → Came before front held mid → before.faults ≤ mid.faults →
-    LosesLine e mid after → LosesLine e before after
-unfolding LosesLine
+    LosesFrom [] held e mid after → LosesFrom [] front e before after
+unfolding LosesFrom Splits
 lost_more shells.ReadFault before mid after front held c count ((more, gone), rose) =
     ((c.came ++ more, Consumes-trans before.left mid.left after.left c.came more c.taken gone), rose_more before.faults mid.faults after.faults count rose)
-lost_more shells.LongInput before mid after front held c count (more, gone) =
-    (c.came ++ more, Consumes-trans before.left mid.left after.left c.came more c.taken gone)
+lost_more shells.LongInput before mid after front held c count (more, gone, clean, long) = (
+  c.came ++ more,
+  Consumes-trans before.left mid.left after.left c.came more c.taken gone,
+  no_feed_more c.came more c.split.0 clean,
+  subst (λ (bytes : List ℕ). 16777216 < length bytes) (ap (λ l. l ++ more) c.split.1 ∙ append_assoc front c.came more) long,
+)
 lost_more shells.OutOfMemory before mid after front held c count (more, gone) =
     (c.came ++ more, Consumes-trans before.left mid.left after.left c.came more c.taken gone)
 lost_more shells.BadWords before mid after front held c count h = absurd h
 lost_more shells.WriteFault before mid after front held c count h = absurd h
 
 -- a front over the limit
-pub long_front : (before after : SourceView) (front held : List ℕ) → Came before front held after → LosesLine shells.LongInput before after
-unfolding LosesLine
-long_front before after front held c = (c.came, c.taken)
+pub long_front : (before after : SourceView) (front held : List ℕ) → Came before front held after → 16777216 < length held →
+    LosesFrom [] front shells.LongInput before after
+unfolding LosesFrom Splits
+long_front before after front held c long = (c.came, c.taken, c.split.0, subst (λ (bytes : List ℕ). 16777216 < length bytes) c.split.1 long)
 
 -- a line over the limit
-pub long_line : (unread front new : List ℕ) (behind : Option (List ℕ)) (before after : SourceView) → ReadsFrom unread before front behind new after →
-    LosesLine shells.LongInput before after
-unfolding ReadsFrom LosesLine
-long_line unread front new None before after (came, taken, split, end) = (came, taken)
-long_line unread front new (Some behind) before after (came, taken, split) = (came, taken)
+pub long_line : (unread line behind : List ℕ) (before after : SourceView) → 16777216 < length line → ReadsFrom unread before [] (Some behind) line after →
+    LosesLine unread shells.LongInput before after
+unfolding ReadsFrom Splits LosesLine
+long_line unread line behind before after long (came, taken, (more, none, begins, same)) = (
+  came,
+  taken,
+  record {
+    front = more;
+    rest = 10 ∷ behind;
+    parts = begins;
+    whole = none;
+    bound = subst (λ (bytes : List ℕ). 16777216 < length bytes) same long;
+  },
+)
 
 -- a line within its limit
 pub took_line : (unread line behind : List ℕ) (before after : SourceView) → length line ≤ 16777216 → ReadsFrom unread before [] (Some behind) line after →

@@ -60,7 +60,7 @@ module _ {W : Type 0} (means : HostedMeaning W) where
 
   -- a line can't be read
   pub not_read : (status : ShellStatus) (old : Session W) (unread left : List ℕ) (source source_after : SourceView) (sink : SinkView) →
-      LosesLine status source source_after → Breaks means status (stand old unread source sink) (stand old left source_after sink)
+      LosesLine unread status source source_after → Breaks means status (stand old unread source sink) (stand old left source_after sink)
   unfolding Breaks LosesLine
   not_read shells.ReadFault old unread left source source_after sink lost = (lost, refl, refl)
   not_read shells.LongInput old unread left source source_after sink lost = (lost, refl, refl)

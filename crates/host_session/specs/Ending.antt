@@ -1,4 +1,4 @@
--- How a run of a session ends, and what the host is told of it.
+-- How a run of a seat ends, and what the host is told of it.
 use Rattle.std.specs.Prelude.{ℕ, Bool, if◌then◌else◌, List, [], ◌∷◌, codes}
 use Rattle.serde_json.specs.Data.{Data, string}
 use Rattle.json_forms.specs.Prints.{num, row}
@@ -7,7 +7,7 @@ use Rattle.json_print.specs.Endings.{Ends}
 use Rattle.json_print.specs.Print.{entries_text}
 use Rattle.json_print.specs.declared.ending.Ending.{Ending}
 use Rattle.host_session.specs.Running.{IsGoing, calls_of}
-use Rattle.host_session.specs.declared.session.SeatRun.{SeatRun}
+use Rattle.host_session.specs.declared.seat.SeatRun.{SeatRun}
 
 -- where the log is what the run has made, it is a run of as many calls, and this is its ending
 abbrev pub EndsBy : SeatRun → Ending → Type 0

@@ -8,5 +8,6 @@ pub mod Piece
 pub mod Refusing
 pub mod Rules
 pub mod Running
+pub mod Seats
 pub mod Service
 pub mod Talking

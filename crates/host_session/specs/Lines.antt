@@ -1,5 +1,5 @@
 -- The lines of a source.
-use Rattle.std.specs.Prelude.{◌≡◌, ℕ, ◌≤◌, false, ◌==◌, List, [], ◌∷◌, ◌++◌, length, Option, Some, None}
+use Rattle.std.specs.Prelude.{◌≡◌, ℕ, ◌<◌, ◌≤◌, false, ◌==◌, List, [], ◌∷◌, ◌++◌, length, Option, Some, None}
 use Rattle.std.specs.Io.KnownBytes.{Consumes, IsAtEnd}
 use Rattle.std.specs.List.{list_any}
 use Rattle.cli_shell.specs.Source.{SourceView, Rose}
@@ -53,10 +53,29 @@ abbrev pub TakesNext : List ℕ → SourceView → Option (List ℕ) → List �
 TakesNext unread before None left after = EndsUnread unread before after
 TakesNext unread before (Some line) left after = TakesLine unread before line left after
 
--- The line can't be read, and this is why. A front of the source was taken.
-unfoldable pub LosesLine : ShellStatus → SourceView → SourceView → Type 0
-LosesLine shells.ReadFault before after = Took before after × Rose before.faults after.faults
-LosesLine shells.LongInput before after = Took before after
-LosesLine shells.OutOfMemory before after = Took before after
-LosesLine shells.BadWords before after = ⊥
-LosesLine shells.WriteFault before after = ⊥
+-- these bytes begin with more than 16 MiB without a line feed
+pub record BeginsLong (bytes : List ℕ) : Type 0 where
+  pub front : List ℕ
+  pub rest : List ℕ
+  pub parts : bytes ≡ front ++ rest
+  pub whole : HasNoFeed front
+  pub bound : 16777216 < length front
+
+-- The next line can't be taken of what was unread and of what came, and this is why. A front of the source was taken.
+unfoldable pub LosesLine : List ℕ → ShellStatus → SourceView → SourceView → Type 0
+LosesLine unread shells.ReadFault before after = Took before after × Rose before.faults after.faults
+LosesLine unread shells.LongInput before after =
+    (came : List ℕ) × Consumes before.left after.left came × BeginsLong (unread ++ came)
+LosesLine unread shells.OutOfMemory before after = Took before after
+LosesLine unread shells.BadWords before after = ⊥
+LosesLine unread shells.WriteFault before after = ⊥
+
+-- the same where these bytes stand before what was unread, and all of them are of the line
+unfoldable pub LosesFrom : List ℕ → List ℕ → ShellStatus → SourceView → SourceView → Type 0
+LosesFrom unread front shells.ReadFault before after = Took before after × Rose before.faults after.faults
+LosesFrom unread front shells.LongInput before after =
+    (came : List ℕ) × Consumes before.left after.left came × HasNoFeed (unread ++ came)
+    × (16777216 < length (front ++ (unread ++ came)))
+LosesFrom unread front shells.OutOfMemory before after = Took before after
+LosesFrom unread front shells.BadWords before after = ⊥
+LosesFrom unread front shells.WriteFault before after = ⊥

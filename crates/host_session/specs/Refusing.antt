@@ -1,7 +1,8 @@
 -- Why a line is refused.
-use Rattle.std.specs.Prelude.{ℕ, ◌==◌, Bool, not, if◌then◌else◌, List, Option, Some, None, codes}
-use Rattle.json_host.specs.declared.message.HostMessage.{HostMessage}
-use Rattle.json_host.specs.declared.message.HostMessage.TheVariants as message
+use Rattle.std.specs.Prelude.{ℕ, Bool, is_some, if◌then◌else◌, List, slice_get, Option, Some, None, codes}
+use Rattle.json_host.specs.declared.message.SeatMessage.{SeatMessage}
+use Rattle.json_host.specs.declared.message.SeatMessage.TheVariants as message
+use Rattle.host_session.specs.declared.seat.Seat.{Seat}
 use Rattle.host_session.specs.declared.why.Why.{Why}
 use Rattle.host_session.specs.declared.why.Why.TheVariants as why
 
@@ -12,13 +13,18 @@ why_text why.NoSeat = codes "no seat"
 why_text why.Busy = codes "busy"
 why_text why.Idle = codes "idle"
 
--- there is one seat, of number 0
-abbrev pub seat_refusal : ℕ → Bool → Why → Option Why
-seat_refusal seat is_wrong reason = if seat == 0 then (if is_wrong then Some reason else None) else Some why.NoSeat
-
 -- a run is begun where none is under way, and all else is for the one that is
-abbrev pub refusal_of : HostMessage → Bool → Option Why
-refusal_of (message.Invoke seat invocation) is_running = seat_refusal seat is_running why.Busy
-refusal_of (message.At seat moment events) is_running = seat_refusal seat (not is_running) why.Idle
-refusal_of (message.GiveUp seat moment) is_running = seat_refusal seat (not is_running) why.Idle
-refusal_of message.Close is_running = None
+abbrev pub refusal_of : SeatMessage → Bool → Option Why
+refusal_of (message.Invoke invocation) is_running = if is_running then Some why.Busy else None
+refusal_of (message.At moment events) is_running = if is_running then None else Some why.Idle
+refusal_of (message.GiveUp moment) is_running = if is_running then None else Some why.Idle
+
+module _ {W : Type 0} where
+  -- the same of a seat that there may not be
+  abbrev pub refusal_by : Option (Seat W) → SeatMessage → Option Why
+  refusal_by None m = Some why.NoSeat
+  refusal_by (Some seat) m = refusal_of m (is_some seat.run)
+
+  -- why a message for the seat of this number is refused, if it is
+  abbrev pub refusal_at : List (Seat W) → ℕ → SeatMessage → Option Why
+  refusal_at seats number m = refusal_by (slice_get seats number) m

@@ -70,9 +70,9 @@ module _ {W : Type 0} (means : HostedMeaning W) where
   -- The conversation breaks off, and this is why.
   unfoldable pub Breaks : ShellStatus → Stand W → Stand W → Type 0
   Breaks shells.ReadFault old new =
-      LosesLine shells.ReadFault old.source new.source × (new.session ≡ old.session) × (new.sink ≡ old.sink)
+      LosesLine old.unread shells.ReadFault old.source new.source × (new.session ≡ old.session) × (new.sink ≡ old.sink)
   Breaks shells.LongInput old new =
-      LosesLine shells.LongInput old.source new.source × (new.session ≡ old.session) × (new.sink ≡ old.sink)
+      LosesLine old.unread shells.LongInput old.source new.source × (new.session ≡ old.session) × (new.sink ≡ old.sink)
   Breaks shells.WriteFault old new =
       (line : List ℕ) × TakesLine old.unread old.source line new.unread new.source
       × IsLost line old.session old.sink new.session new.sink

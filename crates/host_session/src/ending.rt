@@ -1,11 +1,11 @@
-//! How a run of the session ends, and what the host is told of it.
+//! How a run of a seat ends, and what the host is told of it.
 ghost use Rattle.std.specs.Prelude.{◌≡◌, ◌++◌, ◌-◌, [], IfOk, OnOk};
 ghost use Rattle.json_forms.specs.JsonData.{data_of};
 ghost use Rattle.json_print.specs.Print.{ending_data};
 ghost use Rattle.host_session.specs.Ending.{EndsBy, done_data, given_up_data, log_text};
 ghost use Rattle.json_forms.specs.Lines.{line};
 
-use crate::session::SeatRun;
+use crate::seat::SeatRun;
 use json_forms::{Json, Row};
 use json_print::Ending;
 use json_print::ending::print_ending;

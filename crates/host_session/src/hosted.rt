@@ -1,7 +1,7 @@
 //! A client whose outside is a host's.
 
 use crate::handing::feed;
-use crate::world::HostedWorld;
+use crate::world::{HostQuota, HostedWorld};
 use client_components::{ClientMeans, ClientTypes, RuntimeComponents};
 use orchestrate::World;
 use outside_hosted::{HostEvent, HostedOutside, Told};
@@ -9,6 +9,7 @@ use run_driver::Parking;
 use run_grammar::{Answer, Entry, Question};
 use smithy_types::{List, OutOfMemory};
 use std::alloc::Global;
+use std::mem;
 
 /// A client whose outside is a host's.
 #[derive(Drop)]
@@ -41,7 +42,7 @@ impl<T: ClientTypes<Outside = HostedOutside>> Parking for HostedClient<T> {
     }
 }
 
-impl<T: ClientTypes<Outside = HostedOutside>> HostedWorld for HostedClient<T> {
+impl<T: ClientTypes<Outside = HostedOutside, Quota = HostQuota>> HostedWorld for HostedClient<T> {
     ghost use Rattle.std.specs.Prelude.{◌≡◌, [], refl};
     ghost use Rattle.client_components.specs.Resting.{Ends};
     ghost use Rattle.outside_hosted.specs.Makes.{Makes};
@@ -52,6 +53,15 @@ impl<T: ClientTypes<Outside = HostedOutside>> HostedWorld for HostedClient<T> {
       components = record c.components {
         parts =
             record c.components.parts { outside = outside };
+      };
+    } };
+
+    ghost paid_from = { λ c. c.components.parts.quota };
+
+    ghost with_quota = { λ quota c. record c {
+      components = record c.components {
+        parts =
+            record c.components.parts { quota = quota };
       };
     } };
 
@@ -79,6 +89,10 @@ impl<T: ClientTypes<Outside = HostedOutside>> HostedWorld for HostedClient<T> {
         Ok(told)
     }
 
+    fn exchange_quota(&mut self, quota: &mut HostQuota) {
+        mem::swap(&mut self.components.parts.quota, quota);
+    }
+
     fn empty_log(&mut self) {
         self.components.log = List::new();
     }
@@ -90,6 +104,10 @@ impl<T: ClientTypes<Outside = HostedOutside>> HostedWorld for HostedClient<T> {
     ghost outside_is = { λ outside c. refl };
 
     ghost calls_stay = { λ outside c. refl };
+
+    ghost quota_is = { λ quota c. refl };
+
+    ghost quota_keeps_calls = { λ quota c. refl };
 
     ghost calls_go = { λ c. refl };
 

@@ -1,7 +1,8 @@
 //! Lines of a source.
 ghost use Rattle.std.specs.Prelude.{◌≡◌, ◌==◌, ◌+◌, ◌<◌, ◌≤◌, [], None, length, option_map, position, vec_len};
 ghost use Rattle.std.specs.Prelude.{IfOk, IfErr, IfSome};
-ghost use Rattle.host_session.specs.Lines.{LosesLine, ReadsFrom, ReadsOn, Splits, TakesNext};
+ghost use Rattle.host_session.specs.Lines.{LosesFrom, LosesLine, ReadsFrom, ReadsOn, Splits};
+ghost use Rattle.host_session.specs.Lines.{TakesNext};
 ghost use Rattle.host_session.specs.Piece.{Brings};
 
 use cli_shell::source::{Got, Source};
@@ -32,7 +33,7 @@ impl Lines {
 
     /// The next line without its line feed. None at the end; what is behind the last line feed is
     /// no line. `LongInput` where a line has more than 16 MiB.
-    #[tactic(auto, using(crate::proofs::NextLine::took_line, crate::proofs::NextLine::took_end, crate::proofs::NextLine::long_line))]
+    #[tactic(auto, using(crate::proofs::NextLine::took_line, crate::proofs::NextLine::took_end, crate::proofs::NextLine::long_line, crate::proofs::NextLine::lost_line))]
     pub fn next<S: Source>(
         &mut self,
         alloc: Global,
@@ -40,7 +41,8 @@ impl Lines {
     ) -> Result<Option<Vec<u8>>, ShellStatus>
         ensures found { IfOk result (λ found. TakesNext self.old.unread.items (S.view source.old)
             (option_map (λ line. line.items) found) self.new.unread.items (S.view source.new)) }
-        ensures lost { IfErr result (λ e. LosesLine e (S.view source.old) (S.view source.new)) }
+        ensures lost { IfErr result (λ e. LosesLine self.old.unread.items e (S.view source.old)
+            (S.view source.new)) }
         ensures count { (S.view source.old).faults ≤ (S.view source.new).faults }
     {
         let mut line = Vec::new(alloc);
@@ -61,7 +63,7 @@ impl Lines {
 
 // Reads on to the next line feed, these bytes first. Answers what was read behind it, and None at
 // the end.
-#[tactic(auto, using(crate::proofs::NextLine::from_unread, crate::proofs::NextLine::from_source, crate::proofs::NextLine::lost_before))]
+#[tactic(auto, using(crate::proofs::NextLine::from_unread, crate::proofs::NextLine::from_source, crate::proofs::NextLine::lost_before, crate::proofs::NextLine::lost_behind))]
 fn read_from<S: Source>(
     alloc: Global,
     unread: &[u8],
@@ -70,7 +72,8 @@ fn read_from<S: Source>(
 ) -> Result<Option<Vec<u8>>, ShellStatus>
     ensures found { IfOk result (λ behind. ReadsFrom unread.now (S.view source.old) line.old.items
         (option_map (λ v. v.items) behind) line.new.items (S.view source.new)) }
-    ensures lost { IfErr result (λ e. LosesLine e (S.view source.old) (S.view source.new)) }
+    ensures lost { IfErr result (λ e. LosesFrom unread.now line.old.items e (S.view source.old)
+        (S.view source.new)) }
     ensures count { (S.view source.old).faults ≤ (S.view source.new).faults }
 {
     match split_line(alloc, unread, line) {
@@ -89,7 +92,8 @@ fn read_line<S: Source>(
 ) -> Result<Option<Vec<u8>>, ShellStatus>
     ensures found { IfOk result (λ behind. ReadsOn (S.view source.old) line.old.items
         (option_map (λ v. v.items) behind) line.new.items (S.view source.new)) }
-    ensures lost { IfErr result (λ e. LosesLine e (S.view source.old) (S.view source.new)) }
+    ensures lost { IfErr result (λ e. LosesFrom [] line.old.items e (S.view source.old)
+        (S.view source.new)) }
     ensures count { (S.view source.old).faults ≤ (S.view source.new).faults }
 {
     let mut buffer = zeros(alloc, PIECE)?;
@@ -133,7 +137,8 @@ fn read_piece<S: Source>(
     ensures brings { IfOk result (λ piece. Brings (S.view source.old) line.old.items piece
         line.new.items (S.view source.new)) }
     ensures longer { IfOk result (λ piece. piece ≡ Piece.More → vec_len line.old < vec_len line.new) }
-    ensures lost { IfErr result (λ e. LosesLine e (S.view source.old) (S.view source.new)) }
+    ensures lost { IfErr result (λ e. LosesFrom [] line.old.items e (S.view source.old)
+        (S.view source.new)) }
     ensures count { (S.view source.old).faults ≤ (S.view source.new).faults }
 {
     match source.read(buffer) {

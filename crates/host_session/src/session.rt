@@ -1,29 +1,19 @@
-//! A session: a client, and the run that it is in.
-ghost use Rattle.std.specs.Prelude.{◌≡◌, ◌++◌, [], IfOk, OnOk, is_some};
+//! A session: the seats of a host, and what they share.
+ghost use Rattle.std.specs.Prelude.{◌≡◌, ◌++◌, ◌<◌, IfOk, OnOk, length};
+ghost use Rattle.json_buckets.specs.Buckets.{buckets_text};
 ghost use Rattle.json_forms.specs.Lines.{line};
-ghost use Rattle.json_host.specs.Replies.{refused_data};
-ghost use Rattle.run_driver.specs.Running.{IsOver};
-ghost use Rattle.host_session.specs.Feeding.{Begins, Closes, Feeds, GivesAnyUp, GoesOn, GoesOnAs};
-ghost use Rattle.host_session.specs.Feeding.{Meets, Rests, Takes, Waits, feeding};
-ghost use Rattle.host_session.specs.Refusing.{refusal_of, why_text};
-ghost use Rattle.host_session.specs.Running.{Starts, calls_of};
+ghost use Rattle.json_host.specs.Replies.{end_data, refused_data};
+ghost use Rattle.host_session.specs.Feeding.{Feeds, Meets, MeetsBy, TakesAt};
+ghost use Rattle.host_session.specs.Refusing.{refusal_at, why_text};
 
-use crate::ending::{ending_of, write_done, write_given_up, write_log};
+use crate::seat::Seat;
 use crate::why::{Why, refusal_of};
-use crate::world::{HostedMeans, HostedWorld};
+use crate::world::{HostQuota, HostedMeans, HostedWorld};
+use json_buckets::print_buckets;
 use json_forms::{Arena, ReadError};
-use json_host::{
-    HostInvocation, HostMessage, read_message, write_poison, write_refused, write_told,
-};
-use json_print::RunHead;
-use outside_hosted::HostEvent;
-use run_driver::DrivenRun;
-use smithy_types::{List, OutOfMemory};
+use json_host::{HostMessage, SeatMessage, read_message, write_end, write_refused};
+use smithy_types::OutOfMemory;
 use std::alloc::Global;
-use std::mem;
-
-/// The number of the one seat.
-const SEAT: u64 = 0;
 
 /// What a line came to.
 #[derive(Clone, Copy, Debug, PartialEq, Eq)]
@@ -34,35 +24,13 @@ pub enum Fed {
     Closed,
 }
 
-/// What payloads are outputs and errors.
-#[derive(Clone, Copy, Debug, PartialEq, Eq)]
-pub struct Kinds {
-    /// The kind of payload that is an output.
-    pub output: u64,
-    /// The kind of payload that is an error of the operation.
-    pub error: u64,
-}
-
-/// A run that is under way.
-#[derive(Drop)]
-pub struct SeatRun {
-    /// The run.
-    pub driven: DrivenRun,
-    /// What it was begun with.
-    pub head: RunHead,
-    /// Whether its log is told at its end.
-    pub is_logged: bool,
-}
-
-/// A client, and the run that it is in.
+/// The seats of a host, and what they share.
 #[derive(Drop)]
 pub struct Session<W: HostedWorld + Drop> {
-    /// The client.
-    pub world: W,
-    /// Its run.
-    pub run: Option<SeatRun>,
-    /// What payloads are outputs and errors.
-    pub kinds: Kinds,
+    /// The seats, by their numbers. Each has a quota of its own, which stays as it is.
+    pub seats: Vec<Seat<W>>,
+    /// The buckets and limiters of all, which a seat has while it takes a message.
+    pub quota: HostQuota,
 }
 
 impl<W: HostedWorld + Drop> Session<W> {
@@ -92,8 +60,7 @@ impl<W: HostedWorld + Drop> Session<W> {
         }
     }
 
-    // Takes a message, or refuses it.
-    #[tactic(auto, using(crate::proofs::Meeting::meets_refused, crate::proofs::Meeting::meets_taken))]
+    // Takes a message.
     fn take(
         &mut self,
         alloc: Global,
@@ -101,210 +68,85 @@ impl<W: HostedWorld + Drop> Session<W> {
         out: &mut Vec<u8>,
     ) -> Result<Fed, OutOfMemory>
         ensures { IfOk result (λ come. Meets ⟦<W as HostedMeans>⟧.means
-            (refusal_of message (is_some self.old.run)) message self.old out.old.items self.new
-            out.new.items come) }
-    {
-        match refusal_of(&message, self.run.is_some()) {
-            Some(why) => {
-                let come = refuse(alloc, why, out)?;
-                Ok(come)
-            }
-            None => {
-                let come = self.obey(alloc, message, out)?;
-                Ok(come)
-            }
-        }
-    }
-
-    // Does what a message says.
-    fn obey(
-        &mut self,
-        alloc: Global,
-        message: HostMessage,
-        out: &mut Vec<u8>,
-    ) -> Result<Fed, OutOfMemory>
-        ensures { IfOk result (λ come. Takes ⟦<W as HostedMeans>⟧.means
             message self.old out.old.items self.new out.new.items come) }
     {
         match message {
-            HostMessage::Invoke(_, invocation) => {
-                self.invoke(alloc, invocation, out)?;
-                Ok(Fed::Open)
+            HostMessage::Seat(number, message) => {
+                let come = self.take_for(alloc, number, message, out)?;
+                Ok(come)
             }
-            HostMessage::At(_, moment, events) => {
-                self.hand_in(alloc, moment, events, out)?;
-                Ok(Fed::Open)
-            }
-            HostMessage::GiveUp(_, moment) => {
-                self.give_up(alloc, moment, out)?;
+            HostMessage::Sums => {
+                self.tell_sums(alloc, out)?;
                 Ok(Fed::Open)
             }
             HostMessage::Close => Ok(Fed::Closed),
         }
     }
 
-    // Begins a run, and drives it on.
-    #[tactic(auto, using(crate::proofs::Meeting::begins))]
-    fn invoke(
+    // Takes a message for a seat, or refuses it.
+    #[tactic(auto, using(crate::proofs::Meeting::meets_refused, crate::proofs::Meeting::meets_taken, crate::proofs::Meeting::is_there))]
+    fn take_for(
         &mut self,
         alloc: Global,
-        invocation: HostInvocation,
+        number: u64,
+        message: SeatMessage,
         out: &mut Vec<u8>,
-    ) -> Result<(), OutOfMemory>
-        ensures { OnOk result (Begins ⟦<W as HostedMeans>⟧.means
-            invocation self.old.world self.old.kinds out.old.items self.new out.new.items) }
+    ) -> Result<Fed, OutOfMemory>
+        ensures { IfOk result (λ come. MeetsBy ⟦<W as HostedMeans>⟧.means
+            (refusal_at self.old.seats.items number message) number message self.old out.old.items
+            self.new out.new.items come) }
     {
-        self.world.empty_log();
-        self.world.feed(alloc, invocation.moment, List::new())?;
-        let run = self.started(alloc, invocation)?;
-        self.drive(alloc, run, out)?;
-        Ok(())
-    }
-
-    // A run that made no call yet.
-    #[tactic(auto, using(crate::proofs::Meeting::starts))]
-    fn started(&self, alloc: Global, invocation: HostInvocation) -> Result<SeatRun, OutOfMemory>
-        ensures { IfOk result (λ run. Starts invocation self.now.kinds run) }
-    {
-        let HostInvocation {
-            input,
-            fuel,
-            stop,
-            is_logged,
-            ..
-        } = invocation;
-        let driven = DrivenRun::start(alloc, input.clone()?, stop, fuel)?;
-        Ok(SeatRun {
-            driven,
-            head: RunHead {
-                input,
-                fuel,
-                stop,
-                output_kind: self.kinds.output,
-                error_kind: self.kinds.error,
-            },
-            is_logged,
-        })
-    }
-
-    // Hands in what came, and drives the run on.
-    #[tactic(auto, using(crate::proofs::Meeting::goes_on_fed))]
-    fn hand_in(
-        &mut self,
-        alloc: Global,
-        moment: u64,
-        events: List<HostEvent>,
-        out: &mut Vec<u8>,
-    ) -> Result<(), OutOfMemory>
-        ensures { OnOk result (GoesOn ⟦<W as HostedMeans>⟧.means
-            self.old.run (feeding ⟦<W as HostedMeans>⟧.means moment events self.old.world)
-            self.old.kinds out.old.items self.new out.new.items) }
-    {
-        self.world.feed(alloc, moment, events)?;
-        self.go_on(alloc, out)?;
-        Ok(())
-    }
-
-    // Ends the run where it stands.
-    #[tactic(auto, using(crate::proofs::Meeting::gives_up_some, crate::proofs::Meeting::gives_up_none))]
-    fn give_up(&mut self, alloc: Global, moment: u64, out: &mut Vec<u8>) -> Result<(), OutOfMemory>
-        ensures { OnOk result (GivesAnyUp ⟦<W as HostedMeans>⟧.means
-            self.old.run (feeding ⟦<W as HostedMeans>⟧.means moment [] self.old.world)
-            self.old.kinds out.old.items self.new out.new.items) }
-    {
-        self.world.feed(alloc, moment, List::new())?;
-        match mem::replace(&mut self.run, None) {
-            Some(run) => {
-                self.rest(alloc, out)?;
-                write_given_up(alloc, SEAT, calls_of(&run), out)?;
-                Ok(())
+        match self.refusal_at(number, &message) {
+            Some(why) => {
+                let come = refuse(alloc, why, out)?;
+                Ok(come)
             }
-            None => Ok(()),
-        }
-    }
-
-    // Ends what is open, and tells whose connection isn't used again.
-    #[tactic(auto, using(crate::proofs::Meeting::rested))]
-    fn rest(&mut self, alloc: Global, out: &mut Vec<u8>) -> Result<(), OutOfMemory>
-        ensures rests { OnOk result (Rests ⟦<W as HostedMeans>⟧.means
-            self.old.world out.old.items self.new.world out.new.items) }
-        ensures others { OnOk result (self.new ≡ record self.old { world = self.new.world }) }
-    {
-        self.world.end_open();
-        let told = self.world.tell()?;
-        write_poison(alloc, SEAT, told.poisoned, out)?;
-        Ok(())
-    }
-
-    // Drives the run on.
-    #[tactic(auto, using(crate::proofs::Meeting::goes_on_some, crate::proofs::Meeting::goes_on_none))]
-    fn go_on(&mut self, alloc: Global, out: &mut Vec<u8>) -> Result<(), OutOfMemory>
-        ensures { OnOk result (GoesOn ⟦<W as HostedMeans>⟧.means
-            self.old.run self.old.world self.old.kinds out.old.items self.new out.new.items) }
-    {
-        match mem::replace(&mut self.run, None) {
-            Some(run) => {
-                self.drive(alloc, run, out)?;
-                Ok(())
+            None => {
+                self.take_at(alloc, number as usize, message, out)?;
+                Ok(Fed::Open)
             }
-            None => Ok(()),
         }
     }
 
-    // Drives a run on until it waits or is over. It was taken out.
-    fn drive(
+    // Why a message for the seat of this number is refused. None where it is taken.
+    fn refusal_at(&self, number: u64, message: &SeatMessage) -> Option<Why>
+        ensures { result ≡ refusal_at self.now.seats.items number message.now }
+    {
+        match self.seats.get(number as usize) {
+            Some(seat) => refusal_of(message, seat.run.is_some()),
+            None => Some(Why::NoSeat),
+        }
+    }
+
+    // A seat takes a message.
+    #[tactic(auto, using(crate::proofs::Meeting::takes_at))]
+    fn take_at(
         &mut self,
         alloc: Global,
-        mut run: SeatRun,
+        place: usize,
+        message: SeatMessage,
         out: &mut Vec<u8>,
     ) -> Result<(), OutOfMemory>
-        ensures { OnOk result (GoesOnAs ⟦<W as HostedMeans>⟧.means
-            run self.old.world self.old.kinds out.old.items self.new out.new.items) }
+        requires { place < length self.old.seats.items }
+        ensures { OnOk result (TakesAt ⟦<W as HostedMeans>⟧.means
+            place message self.old out.old.items self.new out.new.items) }
     {
-        let is_over = run.driven.go_on(alloc, &mut self.world)?;
-        if is_over {
-            self.end(alloc, run, out)?;
-            Ok(())
-        } else {
-            self.wait(alloc, run, out)?;
-            Ok(())
-        }
+        let seat = &mut self.seats[place];
+        seat.world.exchange_quota(&mut self.quota);
+        let taken = seat.take(alloc, message, out);
+        seat.world.exchange_quota(&mut self.quota);
+        taken
     }
 
-    // Tells what is open.
-    #[tactic(auto, using(crate::proofs::Meeting::waits))]
-    fn wait(&mut self, alloc: Global, run: SeatRun, out: &mut Vec<u8>) -> Result<(), OutOfMemory>
-        ensures { OnOk result (Waits ⟦<W as HostedMeans>⟧.means
-            self.old.world run self.old.kinds out.old.items self.new out.new.items) }
+    // Tells what each bucket holds.
+    fn tell_sums(&self, alloc: Global, out: &mut Vec<u8>) -> Result<(), OutOfMemory>
+        ensures { OnOk result (out.new.items ≡ (out.old.items
+            ++ buckets_text 0 self.now.quota.books) ++ line end_data) }
     {
-        self.run = Some(run);
-        let told = self.world.tell()?;
-        write_told(alloc, SEAT, &told, out)?;
+        print_buckets(alloc, &self.quota, out)?;
+        write_end(alloc, out)?;
         Ok(())
     }
-
-    // Tells how a run ended.
-    #[tactic(auto, using(crate::proofs::Meeting::closes))]
-    fn end(&mut self, alloc: Global, run: SeatRun, out: &mut Vec<u8>) -> Result<(), OutOfMemory>
-        requires { IsOver run.driven }
-        ensures { OnOk result (Closes ⟦<W as HostedMeans>⟧.means
-            self.old.world run self.old.kinds out.old.items self.new out.new.items) }
-    {
-        self.run = None;
-        self.rest(alloc, out)?;
-        write_log(alloc, run.is_logged, self.world.entries().as_slice(), out)?;
-        let calls = calls_of(&run);
-        let ending = ending_of(run)?;
-        write_done(alloc, SEAT, calls, &ending, out)?;
-        Ok(())
-    }
-}
-
-// How many calls a run made.
-fn calls_of(run: &SeatRun) -> u64
-    ensures { result ≡ calls_of run.now }
-{
-    run.driven.fuel.saturating_sub(run.driven.left)
 }
 
 // Refuses a line.

@@ -1,18 +1,25 @@
 //! A client whose outside is a host's.
 
 use outside_hosted::{HostEvent, Told};
+use rate_limit::ClientRateLimiter;
+use retry_quota::Registry;
 use run_driver::Parking;
 use run_grammar::Entry;
 use smithy_types::{List, OutOfMemory};
 use std::alloc::Global;
 
+/// What the retries of a host's clients are paid from: buckets and limiters.
+pub type HostQuota = Registry<ClientRateLimiter>;
+
 /// A client whose outside is a host's. Between two stretches of a run the host changes the outside
-/// alone.
+/// alone, and what the retries are paid from is exchanged.
 pub trait HostedWorld: Parking {
     ghost use Rattle.std.specs.Prelude.{◌≡◌, List, [], IfOk, OnOk};
     ghost use Rattle.outside_scripted.specs.Wake.{IsNext};
     ghost use Rattle.outside_hosted.specs.declared.hosted_outside.HostedOutside.{HostedOutside};
     ghost use Rattle.outside_hosted.specs.Telling.{after_told, told_of};
+    ghost use Rattle.rate_limit.specs.Pace.{Pace};
+    ghost use Rattle.retry_quota.specs.Registers.{Registers};
     ghost use Rattle.host_session.specs.Handing.{fed};
 
     /// What lies outside.
@@ -20,6 +27,12 @@ pub trait HostedWorld: Parking {
 
     /// The client with another outside.
     ghost with_outside: { HostedOutside → Self → Self };
+
+    /// What its retries are paid from.
+    ghost paid_from: { Self → Registers Pace };
+
+    /// The client whose retries are paid from this.
+    ghost with_quota: { Registers Pace → Self → Self };
 
     /// The client with an empty log.
     ghost emptied: { Self → Self };
@@ -50,6 +63,11 @@ pub trait HostedWorld: Parking {
         ensures after { OnOk result
             (self.new ≡ with_outside (after_told (outside self.old)) self.old) };
 
+    /// Exchanges what the retries are paid from for this quota.
+    fn exchange_quota(&mut self, quota: &mut HostQuota)
+        ensures given { self.new ≡ with_quota quota.old self.old }
+        ensures taken { quota.new ≡ paid_from self.old };
+
     /// Nothing was asked.
     fn empty_log(&mut self)
         ensures { self.new ≡ emptied self.old };
@@ -64,6 +82,13 @@ pub trait HostedWorld: Parking {
     /// Another outside leaves the log.
     ghost calls_stay: { (o : HostedOutside) (w : Self) →
         Self.calls (with_outside o w) ≡ Self.calls w };
+
+    /// What the retries are paid from is that which was put in.
+    ghost quota_is: { (q : Registers Pace) (w : Self) → paid_from (with_quota q w) ≡ q };
+
+    /// Another quota leaves the log.
+    ghost quota_keeps_calls: { (q : Registers Pace) (w : Self) →
+        Self.calls (with_quota q w) ≡ Self.calls w };
 
     /// The log is empty.
     ghost calls_go: { (w : Self) → Self.calls (emptied w) ≡ [] };
@@ -88,6 +113,8 @@ impl<W: HostedWorld> HostedMeans for W {
       parks = W.parks;
       outside = W.outside;
       with_outside = W.with_outside;
+      quota = W.paid_from;
+      with_quota = W.with_quota;
       emptied = W.emptied;
       rests = W.rests;
     } };

@@ -66,3 +66,7 @@ refused_data why = row (string (codes "refused") ∷ string why ∷ [])
 -- how many seats there are
 unfoldable pub opened_data : ℕ → Data
 opened_data seats = row (string (codes "opened") ∷ num seats ∷ [])
+
+-- nothing more is told of the buckets
+unfoldable pub end_data : Data
+end_data = row (string (codes "end") ∷ [])

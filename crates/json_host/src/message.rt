@@ -2,8 +2,8 @@
 ghost use Rattle.std.specs.Prelude.{IfOk, IsErrOf};
 ghost use Rattle.json_forms.specs.View.{view, items_view};
 ghost use Rattle.json_forms.specs.Reading.{Reads};
-ghost use Rattle.json_host.specs.Messages.{close_at, give_up_at, invoke_at, message_at};
-ghost use Rattle.json_host.specs.Messages.{IsMessage, moment_at, only_item, stop_at};
+ghost use Rattle.json_host.specs.Messages.{IsMessage, alone_at, give_up_at, invoke_at};
+ghost use Rattle.json_host.specs.Messages.{message_at, moment_at, only_item, seat_message_at, stop_at};
 
 use crate::event::read_events;
 use json_forms::forms::starts;
@@ -29,15 +29,24 @@ pub struct HostInvocation {
     pub is_logged: bool,
 }
 
-/// What a host says. Each message but the last is for a seat, which is a client and its run.
+/// What a host says for a seat, which is a client and its run.
+#[derive(Drop)]
+pub enum SeatMessage {
+    /// The client is invoked.
+    Invoke(HostInvocation),
+    /// The present moment in nanoseconds, and what came since, in order.
+    At(u64, List<HostEvent>),
+    /// The caller of the run lost interest, at this moment in nanoseconds.
+    GiveUp(u64),
+}
+
+/// What a host says.
 #[derive(Drop)]
 pub enum HostMessage {
-    /// The client of this seat is invoked.
-    Invoke(u64, HostInvocation),
-    /// For the run of this seat: the present moment in nanoseconds, and what came since, in order.
-    At(u64, u64, List<HostEvent>),
-    /// The caller of this seat's run lost interest, at this moment in nanoseconds.
-    GiveUp(u64, u64),
+    /// For the seat of this number.
+    Seat(u64, SeatMessage),
+    /// What the buckets hold is wanted.
+    Sums,
     /// There is nothing more.
     Close,
 }
@@ -65,16 +74,14 @@ fn read_invoke(alloc: Global, value: &Value) -> Result<HostMessage, ReadError>
     let stop = read_stop(stop)?;
     let is_logged = read::boolean(log)?;
     let input = read_payload(alloc, input)?;
-    Ok(HostMessage::Invoke(
-        seat,
-        HostInvocation {
-            moment,
-            input,
-            fuel,
-            stop,
-            is_logged,
-        },
-    ))
+    let invocation = HostInvocation {
+        moment,
+        input,
+        fuel,
+        stop,
+        is_logged,
+    };
+    Ok(HostMessage::Seat(seat, SeatMessage::Invoke(invocation)))
 }
 
 // The moment, and what came.
@@ -86,7 +93,7 @@ fn read_moment(alloc: Global, value: &Value) -> Result<HostMessage, ReadError>
     let seat = read::number(seat)?;
     let moment = read::number(moment)?;
     let events = read_events(alloc, events)?;
-    Ok(HostMessage::At(seat, moment, events))
+    Ok(HostMessage::Seat(seat, SeatMessage::At(moment, events)))
 }
 
 // A run is given up.
@@ -97,7 +104,7 @@ fn read_give_up(value: &Value) -> Result<HostMessage, ReadError>
     let (_, seat, moment) = read::triple(value)?;
     let seat = read::number(seat)?;
     let moment = read::number(moment)?;
-    Ok(HostMessage::GiveUp(seat, moment))
+    Ok(HostMessage::Seat(seat, SeatMessage::GiveUp(moment)))
 }
 
 // One item alone.
@@ -112,18 +119,19 @@ fn only_item(items: &[Value]) -> Result<(), ReadError>
     }
 }
 
-#[tactic(auto, unfolding(crate::specs::Messages::close_at))]
-fn read_close(value: &Value) -> Result<HostMessage, ReadError>
-    ensures { Reads result (close_at (view value.now)) }
+// This message, where nothing stands beside its word.
+#[tactic(auto, unfolding(crate::specs::Messages::alone_at))]
+fn read_alone(message: HostMessage, value: &Value) -> Result<HostMessage, ReadError>
+    ensures { Reads result (alone_at message (view value.now)) }
 {
     only_item(read::items(value)?)?;
-    Ok(HostMessage::Close)
+    Ok(message)
 }
 
-// The message that the value is. Refused where it is none.
-#[tactic(auto, unfolding(crate::specs::Messages::message_at))]
-fn read_value(alloc: Global, value: &Value) -> Result<HostMessage, ReadError>
-    ensures { Reads result (message_at (view value.now)) }
+// The message for a seat that the value is. Refused where it is none.
+#[tactic(auto, unfolding(crate::specs::Messages::seat_message_at))]
+fn read_seat_message(alloc: Global, value: &Value) -> Result<HostMessage, ReadError>
+    ensures { Reads result (seat_message_at (view value.now)) }
 {
     if starts("at", value) {
         return read_moment(alloc, value);
@@ -134,10 +142,21 @@ fn read_value(alloc: Global, value: &Value) -> Result<HostMessage, ReadError>
     if starts("give_up", value) {
         return read_give_up(value);
     }
-    if starts("close", value) {
-        return read_close(value);
-    }
     Err(ReadError::Refused)
+}
+
+// The message that the value is. Refused where it is none.
+#[tactic(auto, unfolding(crate::specs::Messages::message_at))]
+fn read_value(alloc: Global, value: &Value) -> Result<HostMessage, ReadError>
+    ensures { Reads result (message_at (view value.now)) }
+{
+    if starts("sums", value) {
+        return read_alone(HostMessage::Sums, value);
+    }
+    if starts("close", value) {
+        return read_alone(HostMessage::Close, value);
+    }
+    read_seat_message(alloc, value)
 }
 
 /// The message that a line is the text of, without its line feed. It is refused exactly where the

@@ -3,7 +3,7 @@ ghost use Rattle.std.specs.Prelude.{◌≡◌, ◌++◌, OnOk, IfOk};
 ghost use Rattle.json_forms.specs.JsonData.{data_of};
 ghost use Rattle.json_forms.specs.Prints.{null_or};
 ghost use Rattle.json_values.specs.SettingForms.{timeouts_data};
-ghost use Rattle.json_host.specs.Replies.{begin_data, load_data, load_text, opened_data};
+ghost use Rattle.json_host.specs.Replies.{begin_data, end_data, load_data, load_text, opened_data};
 ghost use Rattle.json_host.specs.Replies.{open_id, order_text, park_data, poison_data};
 ghost use Rattle.json_host.specs.Replies.{poison_text, refused_data, scheme_data, told_text};
 ghost use Rattle.json_forms.specs.Lines.{line};
@@ -175,4 +175,12 @@ pub fn write_opened(alloc: Global, seats: u64, out: &mut Vec<u8>) -> Result<(), 
     ensures { OnOk result (out.new.items ≡ out.old.items ++ line (opened_data seats)) }
 {
     Json::tagged(alloc, "opened", Json::number(seats))?.write_line(alloc, out)
+}
+
+/// Writes that nothing more is told of the buckets.
+#[tactic(auto, unfolding(crate::specs::Replies::end_data))]
+pub fn write_end(alloc: Global, out: &mut Vec<u8>) -> Result<(), OutOfMemory>
+    ensures { OnOk result (out.new.items ≡ out.old.items ++ line end_data) }
+{
+    Json::single(alloc, Json::text(alloc, "end")?)?.write_line(alloc, out)
 }
