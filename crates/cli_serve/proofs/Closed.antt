@@ -1,5 +1,5 @@
 -- Where no box is made, it doesn't matter of what kind boxes would be.
-use Rattle.std.proofs.Common.{ℤ, None, refl, subst, inl, inr}
+use Rattle.std.proofs.Common.{ℤ, subst, inl, inr}
 use Rattle.retry_policy.specs.declared.classify.Classifier.{Classifier}
 use Rattle.smithy_base.specs.declared.intercept.Slot.{Slot}
 use Rattle.smithy_context.specs.declared.context.InterceptorContext.{InterceptorContext}

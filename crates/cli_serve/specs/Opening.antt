@@ -59,6 +59,7 @@ pub record IsFresh (start seed : ℕ) (outside : HostedOutside) : Type 0 where
   pub load : outside.load ≡ None
   pub poisoned : outside.poisoned ≡ None
   pub is_parked : outside.is_parked ≡ false
+  pub has_given : outside.has_given ≡ false
 
 module _ {V W : Type 0} {v : V → Type 0} {w : W → Type 0} where
   -- the builder of a client, but its inputs are requests, and its outputs responses

@@ -74,6 +74,23 @@ module _ {W : Type 0} (means : HostedMeaning W) where
         by_case (inl there) = there.1
         by_case (inr past) = absurd (some_none NoSeat (sym (ap (λ (s : Option (Seat W)). refusal_by s m) past.1) ∙ sym is ∙ none))
 
+  -- a seat is lent the shared quota, takes a message, and gives it back
+  pub takes_at : (place : ℕ) (m : SeatMessage) (old new : Session W) (seat after : Seat W) (given back : W) (own shared : Registers Pace) (before text : List ℕ) →
+      slice_get old.seats.items place ≡ Some seat → given ≡ means.with_quota old.quota seat.world → own ≡ means.quota seat.world →
+      Takes means m (record { world = given; run = seat.run; terms = seat.terms }) before after text →
+      back ≡ means.with_quota own after.world → shared ≡ means.quota after.world →
+      new.seats.items ≡ slice_set old.seats.items place (record { world = back; run = after.run; terms = after.terms }) → new.quota ≡ shared →
+      TakesAt means place m old before new text
+  takes_at place m old new seat after given back own shared before text stands is_given is_own taken is_back is_shared seats quota = record {
+    seat = seat;
+    stands = stands;
+    after = after;
+    takes = subst (λ (w : W). Takes means m (record { world = w; run = seat.run; terms = seat.terms }) before after text) is_given taken;
+    seats = seats ∙ ap (λ (w : W). slice_set old.seats.items place (record { world = w; run = after.run; terms = after.terms }))
+        (is_back ∙ ap (λ (q : Registers Pace). means.with_quota q after.world) is_own);
+    quota = quota ∙ is_shared;
+  }
+
   pub feeds_message : (bytes : List ℕ) (m : HostMessage) (old new : Session W) (before text : List ℕ) (come : Fed) →
       IsMessage bytes m → Meets means m old before new text come → Feeds means bytes old before new text come
   feeds_message bytes m old new before text come is met = inl (m, is, met)

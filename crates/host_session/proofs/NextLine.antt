@@ -6,7 +6,7 @@ use Rattle.std.proofs.KnownBytes.{Consumes-kept, Consumes-nil, Consumes-trans}
 use Rattle.cli_shell.specs.Source.{SourceView, Rose}
 use Rattle.cli_shell.specs.declared.status.ShellStatus.{ShellStatus}
 use Rattle.cli_shell.specs.declared.status.ShellStatus.TheVariants as shells
-use Rattle.host_session.specs.Lines.{BeginsLong, Grows, HasNoFeed, LosesFrom, LosesLine, ReadsFrom, ReadsOn, Splits, TakesNext}
+use Rattle.host_session.specs.Lines.{Grows, HasNoFeed, LosesFrom, LosesLine, ReadsFrom, ReadsOn, Splits, TakesNext}
 
 or_false : (a b : Bool) → (a || b) ≡ false → (a ≡ false) × (b ≡ false)
 or_false true b h = absurd (cc h)

@@ -24,7 +24,7 @@ use Rattle.host_session.specs.declared.session.Fed.{Fed}
 use Rattle.host_session.specs.declared.session.Session.{Session}
 use Rattle.host_session.specs.declared.why.Why.{Why}
 use Rattle.host_session.specs.Ending.{done_data, log_text}
-use Rattle.host_session.specs.Feeding.{Feeds, Meets, MeetsBy, Refuses, TakesAt, lent}
+use Rattle.host_session.specs.Feeding.{Feeds, Meets, MeetsBy, TakesAt, lent}
 use Rattle.host_session.specs.Handing.{fed}
 use Rattle.host_session.specs.Laws.{AreUnderWay, IsNotFor, TellsItsRun}
 use Rattle.host_session.specs.Meaning.{HostedMeaning}

@@ -118,8 +118,7 @@ impl<W: HostedWorld + Drop> Session<W> {
         }
     }
 
-    // A seat takes a message.
-    #[tactic(auto, using(crate::proofs::Meeting::takes_at))]
+    // A seat takes a message. Its client has the quota of all meanwhile.
     fn take_at(
         &mut self,
         alloc: Global,
@@ -135,7 +134,8 @@ impl<W: HostedWorld + Drop> Session<W> {
         seat.world.exchange_quota(&mut self.quota);
         let taken = seat.take(alloc, message, out);
         seat.world.exchange_quota(&mut self.quota);
-        taken
+        taken?;
+        Ok(())
     }
 
     // Tells what each bucket holds.

@@ -1,6 +1,6 @@
 -- What a call makes of a hosted outside.
-use Rattle.std.specs.Prelude.{◌≡◌, ℕ, ◌+◌, ◌-◌, ◌^◌, ◌==◌, nat_le, nat_eq, Bool, not, ◌||◌, if◌then◌else◌, List, []}
-use Rattle.std.specs.Prelude.{◌∷◌, ◌++◌, Option, None, Some, Ok, Err, MatchBool, slice_get}
+use Rattle.std.specs.Prelude.{◌≡◌, ℕ, ◌+◌, ◌-◌, ◌^◌, ◌==◌, nat_le, nat_eq, Bool, true, false, not, ◌&&◌, ◌||◌, if◌then◌else◌}
+use Rattle.std.specs.Prelude.{List, [], ◌∷◌, ◌++◌, Option, None, Some, Ok, Err, MatchBool, slice_get}
 use Rattle.std.specs.Cmp.Lexicographic.{pointwise}
 use Rattle.smithy_types.specs.declared.http.Body.TheVariants.{Taken}
 use Rattle.smithy_types.specs.declared.polled.Polled.{Polled}
@@ -50,9 +50,10 @@ Ticks old (GiveUp sleep) new = new ≡ record old { sleeps = without sleep old.s
 abbrev pub Hands : HostedOutside → HostCall → Sent → HostedOutside → Type 0
 Hands old (Waiting number order (Some (Response status headers)) body) answer new =
     (answer ≡ sent.Response (record { status = status; headers = headers; body = Taken }))
-    × (new ≡ record old { call = Streaming number body })
+    × (new ≡ record old { call = Streaming number body; has_given = true })
 Hands old (Waiting number order (Some (NoResponse kind text)) body) answer new =
-    (answer ≡ sent.Failed kind text) × (new ≡ record old { call = Idle; faults = raised old.faults })
+    (answer ≡ sent.Failed kind text)
+    × (new ≡ record old { call = Idle; faults = raised old.faults; has_given = true })
 Hands old (Waiting number order None body) answer new =
     (answer ≡ sent.Pending) × (new ≡ record old { call = Waiting number order None body })
 Hands old Idle answer new = (answer ≡ sent.Pending) × (new ≡ record old { call = Idle })
@@ -64,12 +65,13 @@ Hands old (Streaming number body) answer new =
 abbrev pub Flows : HostedOutside → ℕ → Option HostFrame → HostBody → Polled → HostedOutside → Type 0
 Flows old number None rest answer new = (answer ≡ polled.Pending) × (new ≡ record old { call = Streaming number rest })
 Flows old number (Some (Data bytes)) rest answer new =
-    (answer ≡ polled.Data bytes) × (new ≡ record old { call = Streaming number rest })
+    (answer ≡ polled.Data bytes) × (new ≡ record old { call = Streaming number rest; has_given = true })
 Flows old number (Some Trailers) rest answer new =
-    (answer ≡ polled.Trailers) × (new ≡ record old { call = Streaming number rest })
-Flows old number (Some End) rest answer new = (answer ≡ polled.End) × (new ≡ record old { call = Idle })
+    (answer ≡ polled.Trailers) × (new ≡ record old { call = Streaming number rest; has_given = true })
+Flows old number (Some End) rest answer new =
+    (answer ≡ polled.End) × (new ≡ record old { call = Idle; has_given = true })
 Flows old number (Some (Broken fault)) rest answer new =
-    (answer ≡ polled.Failed fault) × (new ≡ record old { call = Idle; faults = raised old.faults })
+    (answer ≡ polled.Failed fault) × (new ≡ record old { call = Idle; faults = raised old.faults; has_given = true })
 
 -- What is given where the body is asked. Without a call there is nothing to come, and before the
 -- response nothing yet.
@@ -85,9 +87,9 @@ Loads old load None answer new =
     (answer ≡ identity.Pending)
     × (new ≡ record old { load = Some (record { id = load.id; is_told = load.is_told; answer = None }) })
 Loads old load (Some (Loaded content)) answer new =
-    (answer ≡ identity.Ready content) × (new ≡ record old { load = None })
+    (answer ≡ identity.Ready content) × (new ≡ record old { load = None; has_given = true })
 Loads old load (Some (NotLoaded text)) answer new =
-    (answer ≡ identity.Failed text) × (new ≡ record old { load = None; faults = raised old.faults })
+    (answer ≡ identity.Failed text) × (new ≡ record old { load = None; faults = raised old.faults; has_given = true })
 
 -- a load of this scheme is opened
 abbrev pub Opens : HostedOutside → List ℕ → IdentityPoll → HostedOutside → Type 0
@@ -103,8 +105,8 @@ Resolves old id (Some load) answer new =
 abbrev pub has_news : HostedOutside → Bool
 has_news old = call_has_news old.call || load_has_news old.load
 
--- One call, with what it answered. A park waits for the host only where nothing that came is left
--- to be asked for.
+-- One call, with what it answered. A park waits for the host, but where something that came was handed out since the
+-- last one, and more is left to be asked for.
 abbrev pub Makes : HostedOutside → OutsideCall → HostedOutside → Type 0
 Makes old (OfTimers call) new = Ticks old call new
 Makes old (Begin request settings (Ok done)) new =
@@ -124,4 +126,4 @@ Makes old DropResolve new = new ≡ record old { load = None }
 Makes old (Word word) new =
     (word ≡ (pcg64 old.generator).0) × (new ≡ record old { generator = (pcg64 old.generator).1 })
 Makes old (Poison number) new = new ≡ record old { poisoned = Some number }
-Makes old Park new = new ≡ record old { is_parked = not (has_news old) }
+Makes old Park new = new ≡ record old { is_parked = not (old.has_given && has_news old); has_given = false }

@@ -3,7 +3,10 @@ use Rattle.std.specs.Prelude.{◌≡◌, ℕ, ◌+◌, max, nat_eq, Bool, true, 
 use Rattle.std.specs.Prelude.{length, sum_by}
 use Rattle.std.specs.Cmp.Lexicographic.{pointwise}
 use Rattle.smithy_types.specs.Frames.{data_len}
-use Rattle.outside.specs.Calls.{OutsideCall, Begin, Frame, Resolve}
+use Rattle.smithy_types.specs.declared.polled.Polled.TheVariants as polled
+use Rattle.outside.specs.Calls.{OutsideCall, Begin, Poll, Frame, Resolve}
+use Rattle.outside.specs.declared.answers.IdentityPoll.TheVariants as identity
+use Rattle.outside.specs.declared.answers.Sent.TheVariants as sent
 use Rattle.outside_hosted.specs.declared.body.HostBody.{HostBody}
 use Rattle.outside_hosted.specs.declared.call.HostCall.{HostCall}
 use Rattle.outside_hosted.specs.declared.call.HostCall.TheVariants.{Idle, Waiting, Streaming}
@@ -85,3 +88,13 @@ bytes_left (Streaming number body) = body_left body
 abbrev pub bytes_out : HostStep → ℕ
 bytes_out (Asks (Frame (Ok answer))) = data_len answer
 bytes_out _ = 0
+
+-- whether a step hands out something that came
+abbrev pub hands_out : HostStep → Bool
+hands_out (Asks (Poll (Ok sent.Pending))) = false
+hands_out (Asks (Poll (Ok answer))) = true
+hands_out (Asks (Frame (Ok polled.Pending))) = false
+hands_out (Asks (Frame (Ok answer))) = true
+hands_out (Asks (Resolve id (Ok identity.Pending))) = false
+hands_out (Asks (Resolve id (Ok answer))) = true
+hands_out _ = false

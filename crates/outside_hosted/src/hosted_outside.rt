@@ -39,6 +39,8 @@ pub struct HostedOutside {
     pub poisoned: Option<u64>,
     /// Whether the host is waited for, until it is told what is open.
     pub is_parked: bool,
+    /// Whether something that came was handed out since the last park.
+    pub has_given: bool,
     /// How many failures were handed out. The count stands still at the greatest u64.
     pub faults: u64,
 }
@@ -54,6 +56,7 @@ impl HostedOutside {
         ensures load { result.load ≡ None }
         ensures poisoned { result.poisoned ≡ None }
         ensures is_parked { result.is_parked ≡ false }
+        ensures has_given { result.has_given ≡ false }
         ensures faults { result.faults ≡ 0 }
     {
         HostedOutside {
@@ -65,6 +68,7 @@ impl HostedOutside {
             load: None,
             poisoned: None,
             is_parked: false,
+            has_given: false,
             faults: 0,
         }
     }
@@ -95,6 +99,7 @@ impl HostedOutside {
     {
         match reply {
             Some(HostReply::Response { status, headers }) => {
+                self.has_given = true;
                 self.call = HostCall::Streaming { number, body };
                 Sent::Response(HttpResponse {
                     status,
@@ -103,6 +108,7 @@ impl HostedOutside {
                 })
             }
             Some(HostReply::NoResponse(kind, text)) => {
+                self.has_given = true;
                 self.fault();
                 Sent::Failed(kind, text)
             }
@@ -125,15 +131,21 @@ impl HostedOutside {
     {
         match body.frames.take() {
             Some(HostFrame::Data(bytes)) => {
+                self.has_given = true;
                 self.call = HostCall::Streaming { number, body };
                 Polled::Data(bytes)
             }
             Some(HostFrame::Trailers) => {
+                self.has_given = true;
                 self.call = HostCall::Streaming { number, body };
                 Polled::Trailers
             }
-            Some(HostFrame::End) => Polled::End,
+            Some(HostFrame::End) => {
+                self.has_given = true;
+                Polled::End
+            }
             Some(HostFrame::Broken(fault)) => {
+                self.has_given = true;
                 self.fault();
                 Polled::Failed(fault)
             }
@@ -155,8 +167,12 @@ impl HostedOutside {
             answer,
         } = load;
         match answer {
-            Some(HostIdentity::Loaded(identity)) => IdentityPoll::Ready(identity),
+            Some(HostIdentity::Loaded(identity)) => {
+                self.has_given = true;
+                IdentityPoll::Ready(identity)
+            }
             Some(HostIdentity::NotLoaded(text)) => {
+                self.has_given = true;
                 self.fault();
                 IdentityPoll::Failed(text)
             }
@@ -326,7 +342,8 @@ impl Outside for HostedOutside {
     }
 
     fn park(&mut self) {
-        self.is_parked = !self.has_news();
+        self.is_parked = !(self.has_given && self.has_news());
+        self.has_given = false;
     }
 
     ghost timers_make = { λ old call new made. made };

@@ -1,11 +1,11 @@
 //! What holds of every hosted outside. Each law is the contract of a function that does nothing.
-ghost use Rattle.std.specs.Prelude.{◌≡◌, ℕ, ◌+◌, ◌≤◌, false, List, None, Some, Ok, sum_by};
+ghost use Rattle.std.specs.Prelude.{◌≡◌, ℕ, ◌+◌, ◌≤◌, false, true, List, None, Some, Ok, sum_by};
 ghost use Rattle.std.specs.List.{AllByRecursion};
 ghost use Rattle.smithy_context.specs.StandingLayers.{StandingLayers};
 ghost use Rattle.smithy_types.specs.Chain.{Chained};
 ghost use Rattle.smithy_types.specs.declared.http.HttpRequest.{HttpRequest};
 ghost use Rattle.smithy_types.specs.declared.timers.TimersCall.TheVariants.{Now, Start, Ready};
-ghost use Rattle.outside.specs.Calls.{OutsideCall, OfTimers, Begin, Poll, Frame, Resolve, Word};
+ghost use Rattle.outside.specs.Calls.{OutsideCall, OfTimers, Begin, Poll, Frame, Park, Resolve, Word};
 ghost use Rattle.outside_hosted.specs.declared.events.HostEvent.TheVariants as event;
 ghost use Rattle.outside_hosted.specs.declared.events.HostFrame.{HostFrame};
 ghost use Rattle.outside_hosted.specs.declared.events.HostIdentity.{HostIdentity};
@@ -16,7 +16,7 @@ ghost use Rattle.outside_hosted.specs.Determined.{Tells};
 ghost use Rattle.outside_hosted.specs.Handing.{handed};
 ghost use Rattle.outside_hosted.specs.Makes.{Makes};
 ghost use Rattle.outside_hosted.specs.Steps.{HostStep, Steps, begins, bytes_left, bytes_out};
-ghost use Rattle.outside_hosted.specs.Steps.{is_unknown, open_load, opens};
+ghost use Rattle.outside_hosted.specs.Steps.{hands_out, is_unknown, open_load, opens};
 ghost use Rattle.outside_hosted.specs.Telling.{after_told};
 
 /// What a hosted outside answers, and what it is then, follows from what it was and from what it is
@@ -74,4 +74,14 @@ pub fn bodies_are_bounded()
         Makes old (Begin request settings (Ok done)) begun →
         AllByRecursion (λ step. begins step ≡ false) steps →
         Chained Steps begun steps new → sum_by bytes_out steps ≤ 16384 }
+{}
+
+/// A client that parks, and then is handed nothing of what came, waits at its next park, whatever
+/// the host hands in. So no run goes on without end while nothing moves.
+pub fn parks_wait()
+    ensures { (parking parked old new : HostedOutside) (steps : List HostStep) →
+        Makes parking Park parked →
+        Chained Steps parked steps old →
+        AllByRecursion (λ step. hands_out step ≡ false) steps →
+        Makes old Park new → new.is_parked ≡ true }
 {}

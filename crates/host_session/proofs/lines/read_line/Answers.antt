@@ -1,3 +1,4 @@
+use Rattle.std.proofs.Common.{arith}
 use Rattle.host_session.proofs.NextLine.{came_end, came_line, long_front, lost_more}
 use Rattle.host_session.proofs.lines.read_line.Goals as goal
 
@@ -13,4 +14,5 @@ pub returns-in-Err-clause-lost : goal.returns-in-Err-clause-lost
 returns-in-Err-clause-lost g c = lost_more _ _ _ _ _ _ c.loop-alloc.invariant.2 c.loop-alloc.invariant.1 c.in-Err.ensures.lost
 
 pub returns-clause-lost : goal.returns-clause-lost
-returns-clause-lost g c = long_front _ _ _ _ c.loop-alloc.invariant.2
+returns-clause-lost g c =
+    long_front _ _ _ c.loop-alloc.line.items c.loop-alloc.invariant.2 (omega (arith, c.loop-alloc-test.false, c.len.ensures, c.loop-alloc.line.ok.0))

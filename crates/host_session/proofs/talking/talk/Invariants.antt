@@ -12,6 +12,8 @@ invariant-loop-turns g l =
       parks = g.W.Parking.parks;
       outside = g.W.HostedWorld.outside;
       with_outside = g.W.HostedWorld.with_outside;
+      quota = g.W.HostedWorld.paid_from;
+      with_quota = g.W.HostedWorld.with_quota;
       emptied = g.W.HostedWorld.emptied;
       rests = g.W.HostedWorld.rests;
     }) l.turns
