@@ -27,6 +27,8 @@ SUCCESS = [
 ]
 CONVERSATION: List[Line] = [INVOKE, IDENTITY, FAILURE, WAKE, SUCCESS]
 OUTPUT = ["Ok", [1, json.dumps([200, [LENGTH], "ok"], separators=(",", ":"))]]
+SEAT_WORDS = ("begin", "load", "poison", "park", "done")
+BUCKET_TERMS = ("capacity", "retry_cost", "throttling_cost", "transient_cost")
 BAD_SCRIPT, TOO_LARGE = 2, 6
 
 
@@ -68,8 +70,30 @@ def noise(draw: random.Random) -> str:
             '["close",1]',
             '["give_up",7,0]',
             '["at",0,5,[["response",0]]]',
+            '["sums",0]',
         ]
     )
+
+
+def with_seats(count: int, **bucket: int) -> Any:
+    """The description with so many seats of its client, and with other terms of its bucket."""
+    changed = json.loads(json.dumps(DESCRIPTION))
+    changed["clients"] *= count
+    terms = changed["buckets"][0]
+    terms[:4] = [bucket.get(name, now) for name, now in zip(BUCKET_TERMS, terms)]
+    return changed
+
+
+def stalling() -> Any:
+    """The description with a client whose guard gives a body up that is slow for 0.2 s."""
+    changed = json.loads(json.dumps(DESCRIPTION))
+    changed["clients"][0]["client"].update(stall=[False, True, 200_000_000], auth="none")
+    return changed
+
+
+def at_seat(seat: int, line: Line) -> Line:
+    """The same line for another seat."""
+    return [line[0], seat, *line[2:]]
 
 
 class ServingTest(ProgramTest):
@@ -131,6 +155,40 @@ class ServingTest(ProgramTest):
         self.assertEqual(lines[-3][2], 2)
         self.assertEqual(lines[-1][3], ["Ok", [1, '[204,[],""]']])
 
+    def test_runs_at_three_seats_go_on_at_once_as_each_would_alone(self):
+        mixed = [at_seat(seat, line) for line in CONVERSATION for seat in (2, 0, 1)]
+        lines = lines_told(mixed, with_seats(3))[1:]
+        alone = [json.loads(line) for line in whole()[1:] if not line[1].isdigit()]
+        for seat in range(3):
+            own = [it for it in map(json.loads, lines) if it[0] in SEAT_WORDS and it[1] == seat]
+            self.assertEqual(own, [at_seat(seat, line) for line in alone])
+
+    def test_seats_share_a_bucket_which_pays_for_one_retry_alone(self):
+        lines = [at_seat(seat, line) for line in CONVERSATION[:3] for seat in (0, 1)]
+        answers = [json.loads(it) for it in lines_told([*lines, ["sums"]], with_seats(2, capacity=10))]
+        ends = [it for it in answers if it[0] == "done"]
+        self.assertEqual([(it[1], it[3][0]) for it in ends], [(1, "ServiceError")])
+        # all ten tokens are held by the retry of seat 0
+        self.assertEqual(answers[-2:], [["bucket", 0, [10, 10, 0, 10, 0]], ["end"]])
+
+    def test_what_the_buckets_hold_is_told_at_any_time(self):
+        lines = told([["sums"], *CONVERSATION[:3], ["sums"], *CONVERSATION[3:], ["sums"]])
+        sums = [line[2] for line in lines if line[0] == "bucket"]
+        held = [[500, 0, 500, 0, 0], [500, 10, 490, 10, 0], [500, 10, 500, 0, 0]]
+        self.assertEqual(sums, held)
+        self.assertEqual(words(lines).count("end"), 3)
+
+    def test_a_run_waits_whatever_came_that_nobody_asks_for(self):
+        asked = ["invoke", 0, 0, [1, REQUEST], 1000, "None", False]
+        slow = [["at", 0, tenth * 100_000_000, []] for tenth in range(1, 12)]
+        lines = [asked, ["at", 0, 0, [["response", 0, 200, []]]], *slow]
+        parked = lines_told(lines, stalling())[-2:]
+        self.assertEqual(words(map(json.loads, parked)), ["poison", "park"])
+        for late in (["data", 0, "x"], ["end", 0], ["trailers", 0]):
+            with self.subTest(late):
+                more = ["at", 0, 1_100_000_001, [late]]
+                self.assertEqual(lines_told([*lines, more], stalling())[-1], parked[-1])
+
     def test_fuel_a_stop_point_and_an_input_that_is_no_request(self):
         for input_text, fuel, stop, word in [
             (REQUEST, 5, "None", "Unfinished"),
@@ -163,7 +221,7 @@ class ServingTest(ProgramTest):
         self.assertEqual(run("serve", text=""), (BAD_SCRIPT, ""))
         self.assertEqual(run("serve", text="{}\n"), (BAD_SCRIPT, ""))
         held = json.loads(json.dumps(DESCRIPTION))
-        held["client"]["enforce"] = True
+        held["clients"][0]["client"]["enforce"] = True
         self.assertEqual(run("serve", text=text_of(held) + "\n"), (BAD_SCRIPT, ""))
         wide = json.loads(json.dumps(DESCRIPTION))
         wide["buckets"][0][0] = 500_000_001
@@ -198,6 +256,6 @@ def until_answered(engine: "subprocess.Popen[str]") -> List[str]:
     lines = []
     for line in engine.stdout:
         lines.append(line.rstrip("\n"))
-        if json.loads(line)[0] in ("opened", "park", "done", "refused"):
+        if json.loads(line)[0] in ("opened", "park", "done", "refused", "end"):
             break
     return lines
