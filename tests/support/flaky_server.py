@@ -133,6 +133,17 @@ def stall(seconds: float = 60.0) -> Act:
     return act
 
 
+def hold(until: threading.Event) -> Act:
+    """The answer, once this is set."""
+
+    def act(handler: Handler) -> None:
+        while not (until.is_set() or handler.server.is_over.is_set()):
+            handler.wait(TURN)
+        answer(200, OK)(handler)
+
+    return act
+
+
 def cut(body: bytes, length: int) -> Act:
     """A body that breaks off before it has this length."""
 

@@ -159,8 +159,7 @@ class Run:
             log.debug("%s: loads an identity of %s", self._seat.name, reply.scheme)
             self._load.start()
         elif isinstance(reply, Poison):
-            log.debug("%s: connection %d isn't used again", self._seat.name, reply.capture)
-            self._captured[reply.capture].poison()
+            self._poison(reply)
         elif isinstance(reply, Park):
             self._park(reply)
         elif isinstance(reply, Entry):
@@ -180,6 +179,15 @@ class Run:
         if begin.capture is not None:
             self._captured[begin.capture] = call
 
+    def _poison(self, poison: Poison) -> None:
+        """Closes a connection. That the open call breaks off by this is no news for the engine,
+        which doesn't read on."""
+        log.debug("%s: connection %d isn't used again", self._seat.name, poison.capture)
+        call = self._captured[poison.capture]
+        call.poison()
+        if call is self._call:
+            self._call = None
+
     def _park(self, park: Park) -> None:
         """Gives up what isn't open any more, and remembers when to wake."""
         self._wake = park.wake
@@ -195,10 +203,13 @@ class Run:
     def _await_events(self) -> List[Any]:
         """What came of what is open. Nothing, where it is time to wake the run."""
         until = earliest(self._wake, self._terms.until, self._watch())
-        events = self._inbox.take(until)
-        if self._terms.until is not None and self._clock.now() >= self._terms.until:
-            raise InvocationTimeout(self._terms.timeout)
-        return [self._told(event) for event in events if self._is_open(event.source)]
+        while True:
+            came = [event for event in self._inbox.take(until) if self._is_open(event.source)]
+            now = self._clock.now()
+            if self._terms.until is not None and now >= self._terms.until:
+                raise InvocationTimeout(self._terms.timeout)
+            if came or (until is not None and now >= until):
+                return [self._told(event) for event in came]
 
     def _watch(self) -> Optional[int]:
         """When the engine's guard looks at an open body again."""
