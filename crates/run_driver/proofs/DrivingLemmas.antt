@@ -9,7 +9,7 @@ use Rattle.orchestrate.specs.Handing.{HandedOn}
 use Rattle.orchestrate.specs.Stands.{Drove, Lost, Progress}
 use Rattle.orchestrate.proofs.HandingLemmas.{handed_nothing}
 use Rattle.orchestrate.proofs.Running.{progress_more, run_lost}
-use Rattle.run_driver.specs.Driving.{Advances, GoesPast, IsInterrupted, Stretches}
+use Rattle.run_driver.specs.Driving.{Advances, GoesPast, IsInterrupted, RunsThrough, Stretches}
 
 -- no call was made
 pub advances_nothing : (u : Invocation) (log : List Entry) → Advances u u log log 0
@@ -76,4 +76,25 @@ module _ {W : Type 0} (calls : W → List Entry) (relates : W → List Entry →
     last = new;
     goes_past = chain;
     ends = inl (record { stays = refl; related = handed_nothing relates new (calls new) });
+  }
+
+  -- the run is whole, and never had to wait
+  pub ran_quietly : (v w : Invocation) (old mid new : W) → WentPast old mid → Drove Ended v w (calls mid) (calls new) →
+      HandedOn relates mid new (calls mid) (calls new) → RunsThrough calls relates parks old new
+  unfolding WentPast
+  ran_quietly v w old mid new (entries, chain) (same, stays, rest) related = record {
+    entries = entries;
+    last = mid;
+    goes_past = chain;
+    ends = record { stays = stays; related = related };
+  }
+
+  -- it may ask no more, and never had to wait
+  pub ran_awake : (old new : W) → WentPast old new → RunsThrough calls relates parks old new
+  unfolding WentPast
+  ran_awake old new (entries, chain) = record {
+    entries = entries;
+    last = new;
+    goes_past = chain;
+    ends = record { stays = refl; related = handed_nothing relates new (calls new) };
   }

@@ -48,3 +48,10 @@ module _ {W : Type 0} (calls : W → List Entry) (relates : W → List Entry →
     pub last : W
     pub goes_past : Chained (GoesPast parks) old entries last
     pub ends : MakesNone last new ⊎ ((one : Entry) × MakesOne last one new)
+
+  -- One question was asked behind another, and the run had to wait behind none of them.
+  pub record RunsThrough (parks : W → Bool) (old new : W) : Type 0 where
+    pub entries : List Entry
+    pub last : W
+    pub goes_past : Chained (GoesPast parks) old entries last
+    pub ends : MakesNone last new

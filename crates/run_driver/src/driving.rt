@@ -1,7 +1,7 @@
 //! A run that is driven from one wait to the next.
 ghost use Rattle.std.specs.Prelude.{◌≡◌, ◌≤◌, ◌⊎◌, true, false, IfOk, OnErr, OnOk};
 ghost use Rattle.orchestrate.specs.Handing.{HandedOn};
-ghost use Rattle.run_driver.specs.Driving.{Advances, IsDone, IsInterrupted, Stretches};
+ghost use Rattle.run_driver.specs.Driving.{Advances, IsDone, IsInterrupted, RunsThrough, Stretches};
 
 use orchestrate::{Invocation, Step, World};
 use smithy_types::OutOfMemory;
@@ -29,7 +29,7 @@ pub struct Driven {
 }
 
 /// Drives a run on by at most `fuel` calls, until it has to wait or is whole.
-#[tactic(auto, using(crate::proofs::DrivingLemmas::stretched_awake))]
+#[tactic(auto, using(crate::proofs::DrivingLemmas::stretched_awake, crate::proofs::DrivingLemmas::ran_awake))]
 pub fn drive_on<W: Parking>(
     alloc: Global,
     world: &mut W,
@@ -42,6 +42,8 @@ pub fn drive_on<W: Parking>(
     ensures related { IfOk result (λ driven. HandedOn W.relates world.old world.new
         (W.calls world.old) (W.calls world.new)) }
     ensures stretches { OnOk result (Stretches W.calls W.relates W.parks world.old world.new) }
+    ensures through { IfOk result (λ driven. driven.is_over ≡ true →
+        RunsThrough W.calls W.relates W.parks world.old world.new) }
     ensures waits { IfOk result (λ driven. driven.is_over ≡ false → W.parks world.new ≡ true) }
     ensures over { IfOk result (λ driven. driven.is_over ≡ true →
         (driven.calls ≡ fuel) ⊎ IsDone invocation.new) }

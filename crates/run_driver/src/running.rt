@@ -6,7 +6,7 @@ ghost use Rattle.smithy_types.specs.declared.payload.Payload.{Payload};
 ghost use Rattle.run_grammar.specs.declared.answer.Entry.{Entry};
 ghost use Rattle.orchestrate.specs.Answered.{ContextAnswered, PayloadAnswered};
 ghost use Rattle.orchestrate.specs.Handing.{HandedOn};
-ghost use Rattle.run_driver.specs.Driving.{Stretches};
+ghost use Rattle.run_driver.specs.Driving.{RunsThrough, Stretches};
 ghost use Rattle.run_driver.specs.Running.{Goes, IsOver};
 
 use crate::driving::{Parking, drive_on};
@@ -56,6 +56,8 @@ impl DrivenRun {
         ensures related { OnOk result (HandedOn W.relates world.old world.new
             (W.calls world.old) (W.calls world.new)) }
         ensures stretches { OnOk result (Stretches W.calls W.relates W.parks world.old world.new) }
+        ensures through { IfOk result (λ over. over ≡ true →
+            RunsThrough W.calls W.relates W.parks world.old world.new) }
         ensures waits { IfOk result (λ over. over ≡ false → W.parks world.new ≡ true) }
         ensures over { IfOk result (λ over. over ≡ true → IsOver self.new) }
     {

@@ -3,7 +3,7 @@ use Rattle.std.specs.Prelude.{OnErr}
 use Rattle.orchestrate.proofs.HandingLemmas.{handed_more, handed_nothing}
 use Rattle.orchestrate.specs.Stands.{Drove}
 use Rattle.run_driver.specs.Driving.{IsInterrupted}
-use Rattle.run_driver.proofs.DrivingLemmas.{advances_more, advances_nothing, interrupted, stretched_by_one, stretched_quietly, went_nowhere, went_past}
+use Rattle.run_driver.proofs.DrivingLemmas.{advances_more, advances_nothing, interrupted, ran_quietly, stretched_by_one, stretched_quietly, went_nowhere, went_past}
 use Rattle.run_driver.proofs.driving.drive_on.Goals as goal
 
 pub returns-in_err-drive-clause-lost : goal.returns-in_err-drive-clause-lost
@@ -49,4 +49,10 @@ pub returns-then-is_parked-clause-stretches : goal.returns-then-is_parked-clause
 returns-then-is_parked-clause-stretches g c =
     let drove = subst (λ s. Drove s c.loop-calls.invocation c.drive.new.self (g.W.World.calls c.loop-calls.world) (g.W.World.calls c.drive.new.world)) c.in-Asked.is c.in_ok-drive.ensures.drove in
     stretched_by_one g.W.World.calls g.W.World.relates g.W.Parking.parks c.loop-calls.invocation c.drive.new.self c.args.world.now c.loop-calls.world c.drive.new.world
+    c.loop-calls.invariant.2 drove c.in_ok-drive.ensures.related
+
+pub returns-in-Ended-clause-through : goal.returns-in-Ended-clause-through
+returns-in-Ended-clause-through g c is_over =
+    let drove = subst (λ s. Drove s c.loop-calls.invocation c.drive.new.self (g.W.World.calls c.loop-calls.world) (g.W.World.calls c.drive.new.world)) c.in-Ended.is c.in_ok-drive.ensures.drove in
+    ran_quietly g.W.World.calls g.W.World.relates g.W.Parking.parks c.loop-calls.invocation c.drive.new.self c.args.world.now c.loop-calls.world c.drive.new.world
     c.loop-calls.invariant.2 drove c.in_ok-drive.ensures.related
