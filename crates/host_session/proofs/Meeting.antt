@@ -12,7 +12,7 @@ use Rattle.outside_hosted.specs.declared.events.HostEvent.{HostEvent}
 use Rattle.smithy_types.specs.declared.kinds.StopPoint.{StopPoint}
 use Rattle.smithy_types.specs.declared.payload.Payload.{Payload}
 use Rattle.orchestrate.specs.Handing.{HandedOn}
-use Rattle.run_driver.specs.Driving.{Stretches}
+use Rattle.run_driver.specs.Driving.{RunsThrough, Stretches}
 use Rattle.run_driver.specs.Running.{Goes, IsOver}
 use Rattle.run_driver.specs.declared.running.DrivenRun.{DrivenRun}
 use Rattle.json_host.specs.Messages.{IsMessage}
@@ -111,9 +111,9 @@ module _ {W : Type 0} (means : HostedMeaning W) where
       subst (λ (r : Option SeatRun). GoesOn means r old terms before new text) (sym is) (same, told)
 
   pub is_over : (run after : SeatRun) (old world : W) (terms : SeatTerms) (new : Seat W) (before text : List ℕ) →
-      Drives means old run world after → Closes means world after terms before new text →
+      Drives means old run world after → RunsThrough means.calls means.relates means.parks old world → Closes means world after terms before new text →
       GoesOnAs means run old terms before new text
-  is_over run after old world terms new before text drives closes = record { world = world; after = after; drives = drives; told = inr closes }
+  is_over run after old world terms new before text drives through closes = record { world = world; after = after; drives = drives; told = inr (through, closes) }
 
   pub is_waiting : (run after : SeatRun) (old world : W) (terms : SeatTerms) (new : Seat W) (before text : List ℕ) →
       Drives means old run world after → means.parks world ≡ true → Waits means world after terms before new text →

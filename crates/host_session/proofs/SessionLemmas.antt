@@ -81,7 +81,7 @@ module _ {W : Type 0} (means : HostedMeaning W) where
       | inl w ↦
           subst (λ (s : Seat W). IsKept s) (sym w.1.after)
           (subst (λ (l : List Entry). IsGoing g.after l) (sym (calls_stay _ g.world)) (going_on run g.after old g.world g.drives going))
-      | inr c ↦ subst (λ (s : Seat W). IsKept s) (sym c.after) tt
+      | inr (through, c) ↦ subst (λ (s : Seat W). IsKept s) (sym c.after) tt
     ]
 
     -- the same where a run may be under way
@@ -108,7 +108,7 @@ module _ {W : Type 0} (means : HostedMeaning W) where
     tells run old terms new before text g going gone =
         elim g.told as (λ _. TellsItsRun terms.number run (means.calls new.world) before text) [
           | inl w ↦ absurd (none_is_some g.after (sym (ap (λ (s : Seat W). s.run) w.1.after) ∙ gone))
-          | inr c ↦ record {
+          | inr (through, c) ↦ record {
             made = calls_of g.after;
             ending = c.ending;
             bound = let e : g.after.driven.fuel ≡ run.head.fuel = g.drives.fuel ∙ going.fuel in omega arith;

@@ -4,7 +4,7 @@ use Rattle.run_grammar.specs.declared.answer.Entry.{Entry}
 use Rattle.smithy_types.specs.declared.kinds.StopPoint.{StopPoint}
 use Rattle.smithy_types.specs.declared.payload.Payload.{Payload}
 use Rattle.orchestrate.specs.Handing.{HandedOn}
-use Rattle.run_driver.specs.Driving.{Stretches}
+use Rattle.run_driver.specs.Driving.{RunsThrough, Stretches}
 use Rattle.run_driver.specs.Running.{Goes, IsOver}
 use Rattle.outside_scripted.specs.Wake.{IsNext}
 use Rattle.outside_hosted.specs.declared.events.HostEvent.{HostEvent}
@@ -70,14 +70,15 @@ module _ {W : Type 0} (means : HostedMeaning W) where
         ++ line (done_data terms.number (calls_of run) (ending_data ending))
     pub after : new ≡ record { world = new.world; run = None; terms = terms }
 
-  -- The run is driven on from this client, until it has to wait or is over.
+  -- The run is driven on from this client, until it has to wait or is over. It is told as over only where it never had to
+  -- wait.
   pub record GoesOnAs (run : SeatRun) (old : W) (terms : SeatTerms) (before : List ℕ) (new : Seat W) (text : List ℕ)
       : Type 0 where
     pub world : W
     pub after : SeatRun
     pub drives : Drives old run world after
     pub told : ((means.parks world ≡ true) × Waits world after terms before new text)
-        ⊎ Closes world after terms before new text
+        ⊎ (RunsThrough means.calls means.relates means.parks old world × Closes world after terms before new text)
 
   -- the run of the seat, where there is one
   abbrev pub GoesOn : Option SeatRun → W → SeatTerms → List ℕ → Seat W → List ℕ → Type 0

@@ -9,7 +9,7 @@ returns-in_ok-end g c =
     is_over _ c.args.run _ c.args.self.now.world c.go_on.new.world c.args.self.now.terms c.end.new.self c.args.out.now.items c.end.new.out.items
     (drives _ c.args.self.now.world c.go_on.new.world c.args.run c.go_on.new.self c.in_ok-is_over.ensures.goes c.in_ok-is_over.ensures.fuel c.in_ok-is_over.ensures.related
     c.in_ok-is_over.ensures.stretches)
-    c.in_ok-end.ensures
+    (c.in_ok-is_over.ensures.through c.if-is_over.true) c.in_ok-end.ensures
 
 pub returns-in_ok-wait : goal.returns-in_ok-wait
 returns-in_ok-wait g c =
