@@ -60,6 +60,7 @@ pub record IsFresh (start seed : ℕ) (outside : HostedOutside) : Type 0 where
   pub poisoned : outside.poisoned ≡ None
   pub is_parked : outside.is_parked ≡ false
   pub has_given : outside.has_given ≡ false
+  pub faults : outside.faults ≡ 0
 
 module _ {V W : Type 0} {v : V → Type 0} {w : W → Type 0} where
   -- the builder of a client, but its inputs are requests, and its outputs responses
