@@ -46,7 +46,7 @@ from_unread unread front behind new before h = ([], Consumes-nil before.left, sp
 pub from_source : (unread front mid new : List ℕ) (behind : Option (List ℕ)) (before after : SourceView) → Splits unread front None mid →
     ReadsOn before mid behind new after → ReadsFrom unread before front behind new after
 unfolding ReadsFrom
-from_source unread front mid new None before after h (came, taken, split, end) = (came, taken, splits_more unread came front mid new None h split, end)
+from_source unread front mid new None before after h (came, taken, split, end, bound) = (came, taken, splits_more unread came front mid new None h split, end, bound)
 from_source unread front mid new (Some behind) before after h (came, taken, split) = (came, taken, splits_more unread came front mid new (Some behind) h split)
 
 -- nothing is lost where nothing was read
@@ -103,10 +103,10 @@ pub piece_more : (before after : SourceView) (came front new : List ℕ) → Con
 unfolding Grows
 piece_more before after came front new taken split = (came, taken, split)
 
-pub piece_end : (before after : SourceView) (front : List ℕ) → Consumes before.left after.left [] → IsAtEnd after.left →
+pub piece_end : (before after : SourceView) (front : List ℕ) → length front ≤ 16777216 → Consumes before.left after.left [] → IsAtEnd after.left →
     ReadsFrom [] before front None front after
 unfolding ReadsFrom Splits
-piece_end before after front taken end = ([], taken, (refl, sym (append-nil front)), end)
+piece_end before after front bound taken end = ([], taken, (refl, sym (append-nil front)), end, bound)
 
 -- ---- piece after piece
 
@@ -137,8 +137,8 @@ came_line before mid after front held behind new c (more, gone, parts) =
 pub came_end : (before mid after : SourceView) (front held new : List ℕ) → Came before front held mid →
     ReadsFrom [] mid held None new after → ReadsFrom [] before front None new after
 unfolding ReadsFrom
-came_end before mid after front held new c (more, gone, parts, end) =
-    (c.came ++ more, Consumes-trans before.left mid.left after.left c.came more c.taken gone, splits_more c.came more front held new None c.split parts, end)
+came_end before mid after front held new c (more, gone, parts, end, bound) =
+    (c.came ++ more, Consumes-trans before.left mid.left after.left c.came more c.taken gone, splits_more c.came more front held new None c.split parts, end, bound)
 
 rose_more : (first mid after : ℕ) → first ≤ mid → Rose mid after → Rose first after
 rose_more first mid after n (inl k) = inl (omega (arith, n, k))
@@ -198,4 +198,10 @@ took_line unread line behind before after bound (came, taken, (more, none, begin
 -- no line
 pub took_end : (unread line left : List ℕ) (before after : SourceView) → ReadsFrom unread before [] None line after → TakesNext unread before None left after
 unfolding ReadsFrom Splits
-took_end unread line left before after (came, taken, split, end) = record { came = came; taken = taken; at_end = end; no_line = split.0 }
+took_end unread line left before after (came, taken, split, end, bound) = record {
+  came = came;
+  taken = taken;
+  at_end = end;
+  no_line = split.0;
+  bound = subst (λ (bytes : List ℕ). length bytes ≤ 16777216) split.1 bound;
+}

@@ -18,10 +18,11 @@ Splits bytes front (Some behind) new =
     (more : List ℕ) × HasNoFeed more × (bytes ≡ more ++ 10 ∷ behind) × (new ≡ front ++ more)
 
 -- These bytes and what came behind them are read on to the first line feed, where there is one: the front grows by what
--- stands before it, and these stand behind it. Without one the source is at its end.
+-- stands before it, and these stand behind it. Without one the source is at its end, and there are at most 16 MiB.
 unfoldable pub ReadsFrom : List ℕ → SourceView → List ℕ → Option (List ℕ) → List ℕ → SourceView → Type 0
 ReadsFrom unread before front None new after =
     (came : List ℕ) × Consumes before.left after.left came × Splits (unread ++ came) front None new × IsAtEnd after.left
+    × (length new ≤ 16777216)
 ReadsFrom unread before front (Some behind) new after =
     (came : List ℕ) × Consumes before.left after.left came × Splits (unread ++ came) front (Some behind) new
 
@@ -41,12 +42,13 @@ pub record TakesLine (unread : List ℕ) (before : SourceView) (line left : List
   pub whole : HasNoFeed line
   pub bound : length line ≤ 16777216
 
--- The source is at its end, and no line feed is left.
+-- The source is at its end, and no line feed is left in at most 16 MiB.
 pub record EndsUnread (unread : List ℕ) (before after : SourceView) : Type 0 where
   pub came : List ℕ
   pub taken : Consumes before.left after.left came
   pub at_end : IsAtEnd after.left
   pub no_line : HasNoFeed (unread ++ came)
+  pub bound : length (unread ++ came) ≤ 16777216
 
 -- a line, or none
 abbrev pub TakesNext : List ℕ → SourceView → Option (List ℕ) → List ℕ → SourceView → Type 0

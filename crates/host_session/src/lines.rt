@@ -133,7 +133,8 @@ fn read_piece<S: Source>(
     buffer: &mut [u8],
     line: &mut Vec<u8>,
 ) -> Result<Piece, ShellStatus>
-    requires { 0 < length buffer.old }
+    requires room { 0 < length buffer.old }
+    requires short { vec_len line.old ≤ 16777216 }
     ensures brings { IfOk result (λ piece. Brings (S.view source.old) line.old.items piece
         line.new.items (S.view source.new)) }
     ensures longer { IfOk result (λ piece. piece ≡ Piece.More → vec_len line.old < vec_len line.new) }
