@@ -1,5 +1,5 @@
 -- Where no box is made, it doesn't matter of what kind boxes would be.
-use Rattle.std.proofs.Common.{ℤ, subst, inl, inr}
+use Rattle.std.proofs.Common.{ℕ, ℤ, subst, inl, inr}
 use Rattle.retry_policy.specs.declared.classify.Classifier.{Classifier}
 use Rattle.smithy_base.specs.declared.intercept.Slot.{Slot}
 use Rattle.smithy_context.specs.declared.context.InterceptorContext.{InterceptorContext}
@@ -13,8 +13,11 @@ use Rattle.cli_shell.specs.declared.status.Ended.{Ended}
 use Rattle.cli_serve.specs.Conversing.{OpensAndServes, Place, ServesHost, ServesSession}
 use Rattle.cli_serve.specs.Means.{hosted_means}
 use Rattle.host_session.specs.declared.session.Session.{Session}
-use Rattle.cli_serve.specs.Opening.{Opens, ServedClient}
+use Rattle.rate_limit.specs.Pace.{Pace}
+use Rattle.retry_quota.specs.Registers.{Registers}
+use Rattle.cli_serve.specs.Opening.{BuildsClient, Opens, ServedClient}
 use Rattle.cli_serve.specs.declared.description.HostDescription.{HostDescription}
+use Rattle.cli_serve.specs.declared.description.SeatDescription.{SeatDescription}
 
 nobody : NoClassifier → ⊥
 nobody (inl b) = b
@@ -57,3 +60,11 @@ pub closed_session : (d : HostDescription) (ended : Ended) (old new : Place) (v 
     ServesSession (hosted_means says chain) session ended old new → Ranks ranked → Says says → Intercepts chain → ServesHost d ended old new
 closed_session d ended old new v w ranked says chain session opened serves r s n =
     closed d ended old new v w ranked says chain r s n (record { session = session; is_opened = opened; serves = serves })
+
+-- a client that was built by what its classifiers rank is built by the priorities that have names
+pub owned : (v : NoClassifier → Type 0) (w : NoInterceptor → Type 0) (ranked : Classifier ServiceError NoClassifier v → ℤ) (start : ℕ) (old : Registers Pace) (d : SeatDescription)
+    (world : ServedClient (Classifier ServiceError NoClassifier v) (Slot OwnInterceptor NoInterceptor w)) (new : Registers Pace) →
+    BuildsClient {V = NoClassifier} {W = NoInterceptor} {v = v} {w = w} ranked start old d world new → Ranks ranked →
+    BuildsClient {V = NoClassifier} {W = NoInterceptor} {v = v} {w = w} own_ranked start old d world new
+owned v w ranked start old d world new built r =
+    subst (λ (x : Classifier ServiceError NoClassifier v → ℤ). BuildsClient {V = NoClassifier} {W = NoInterceptor} {v = v} {w = w} x start old d world new) (ranks nobody ranked r) built

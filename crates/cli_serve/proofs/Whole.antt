@@ -1,5 +1,5 @@
 -- The builder of a host's client lacks nothing, the client is built, and its seat is opened.
-use Rattle.std.proofs.Common.{◌≡◌, ◌∙◌, ℕ, ◌+◌, ℤ, refl, sym, ap, subst, arith, List, [], ◌∷◌, ◌++◌, length, Option, None}
+use Rattle.std.proofs.Common.{◌≡◌, ◌∙◌, ℕ, ◌+◌, ℤ, refl, sym, ap, subst, arith, append_assoc, append-nil, List, [], ◌∷◌, ◌++◌, length, Option, None}
 use Rattle.smithy_types.specs.declared.partition.RetryPartition.{RetryPartition}
 use Rattle.smithy_base.specs.declared.intercept.Slot.{Slot}
 use Rattle.json_scripts.specs.declared.client.terms.ClientObject.{ClientObject}
@@ -25,6 +25,10 @@ whole_of : (V W : Type 0) (v : V → Type 0) (w : W → Type 0) (partition : Opt
     refusal (served_builder (builder_of {V = V} {W = W} {v = v} {w = w} partition c) errors) ≡ None
 unfolding builder_of merged_layer
 whole_of V W v w partition c errors = lacks_nothing V W v w partition c
+
+nothing_left : (rest : List SeatDescription) → length rest ≡ 0 → rest ≡ []
+nothing_left [] e = refl
+nothing_left (d ∷ rest) e = absurd (omega (arith, e))
 
 module _ {V W : Type 0} {v : V → Type 0} {w : W → Type 0} where
   -- so it is of the builder that was made
@@ -60,14 +64,7 @@ module _ {V W : Type 0} {v : V → Type 0} {w : W → Type 0} where
   more_seats ranked start number old mid new [] d (one ∷ seats) seat absent h = absurd absent
   more_seats ranked start number old mid new (e ∷ ds) d [] seat absent h = absurd absent
 
-  -- no seat is opened yet
-  pub no_seats : (ranked : Classifier ServiceError V v → ℤ) (start : ℕ) (old : Registers Pace) (none : List (Seat (ServedClient (Classifier ServiceError V v) (Slot OwnInterceptor W w)))) →
-      none ≡ [] → OpensSeats ranked start 0 old [] none old
-  no_seats ranked start old none empty =
-      subst (λ (seats : List (Seat (ServedClient (Classifier ServiceError V v) (Slot OwnInterceptor W w)))). OpensSeats ranked start 0 old [] seats old) (sym empty) refl
-
-  -- one more is opened
-  pub opened_more : (ranked : Classifier ServiceError V v → ℤ) (start number : ℕ) (old mid new : Registers Pace) (ds : List SeatDescription) (d : SeatDescription)
+  opened_more : (ranked : Classifier ServiceError V v → ℤ) (start number : ℕ) (old mid new : Registers Pace) (ds : List SeatDescription) (d : SeatDescription)
       (seats whole : List (Seat (ServedClient (Classifier ServiceError V v) (Slot OwnInterceptor W w)))) (world : ServedClient (Classifier ServiceError V v) (Slot OwnInterceptor W w)) (terms : SeatTerms) →
       OpensSeats ranked start 0 old ds seats mid → BuildsClient ranked start mid d world new → number ≡ length seats → terms ≡ record { number = number; output_kind = 1; error_kind = 2 } →
       whole ≡ seats ++ record { world = world; run = None; terms = terms } ∷ [] → OpensSeats ranked start 0 old (ds ++ d ∷ []) whole new
@@ -78,3 +75,32 @@ module _ {V W : Type 0} {v : V → Type 0} {w : W → Type 0} where
         run = refl;
         terms = subst (λ n. terms ≡ record { number = n; output_kind = 1; error_kind = 2 }) (is ∙ omega arith) terms_are;
       }))
+
+  -- the seats of a front of these descriptions are opened, and these are left
+  pub record Opened (ranked : Classifier ServiceError V v → ℤ) (start : ℕ) (old : Registers Pace) (described rest : List SeatDescription) (seats : List (Seat (ServedClient (Classifier ServiceError V v) (Slot OwnInterceptor W w)))) (new : Registers Pace) : Type 0 where
+    pub front : List SeatDescription
+    pub parts : front ++ rest ≡ described
+    pub opened : OpensSeats ranked start 0 old front seats new
+
+  pub none_opened : (ranked : Classifier ServiceError V v → ℤ) (start : ℕ) (old new : Registers Pace) (described rest : List SeatDescription) (none : List (Seat (ServedClient (Classifier ServiceError V v) (Slot OwnInterceptor W w)))) →
+      rest ≡ described → new ≡ old → none ≡ [] → Opened ranked start old described rest none new
+  none_opened ranked start old new described rest none whole same empty = record {
+    front = [];
+    parts = whole;
+    opened = subst (λ (seats : List (Seat (ServedClient (Classifier ServiceError V v) (Slot OwnInterceptor W w)))). OpensSeats ranked start 0 old [] seats new) (sym empty) same;
+  }
+
+  pub one_opened : (ranked : Classifier ServiceError V v → ℤ) (start number : ℕ) (old mid new : Registers Pace) (described before rest : List SeatDescription) (d : SeatDescription)
+      (seats whole : List (Seat (ServedClient (Classifier ServiceError V v) (Slot OwnInterceptor W w)))) (world : ServedClient (Classifier ServiceError V v) (Slot OwnInterceptor W w)) (terms : SeatTerms) →
+      Opened ranked start old described before seats mid → before ≡ d ∷ rest → BuildsClient ranked start mid d world new → number ≡ length seats → terms ≡ record { number = number; output_kind = 1; error_kind = 2 } →
+      whole ≡ seats ++ record { world = world; run = None; terms = terms } ∷ [] → Opened ranked start old described rest whole new
+  one_opened ranked start number old mid new described before rest d seats whole world terms h next built is terms_are whole_is = record {
+    front = h.front ++ d ∷ [];
+    parts = append_assoc h.front (d ∷ []) rest ∙ sym (ap (λ l. h.front ++ l) next) ∙ h.parts;
+    opened = opened_more ranked start number old mid new h.front d seats whole world terms h.opened built is terms_are whole_is;
+  }
+
+  pub all_opened : (ranked : Classifier ServiceError V v → ℤ) (start : ℕ) (old new : Registers Pace) (described rest : List SeatDescription) (seats : List (Seat (ServedClient (Classifier ServiceError V v) (Slot OwnInterceptor W w)))) →
+      Opened ranked start old described rest seats new → length rest ≡ 0 → OpensSeats ranked start 0 old described seats new
+  all_opened ranked start old new described rest seats h none =
+      subst (λ (ds : List SeatDescription). OpensSeats ranked start 0 old ds seats new) (sym (append-nil h.front) ∙ sym (ap (λ l. h.front ++ l) (nothing_left rest none)) ∙ h.parts) h.opened
