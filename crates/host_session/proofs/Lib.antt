@@ -1,3 +1,6 @@
+pub mod Adding
+pub mod Decimals
+pub mod Delays
 pub mod EndingLemmas
 pub mod Feeds
 pub mod HandingLemmas

@@ -1,3 +1,4 @@
+pub mod Classifiers
 pub mod Ending
 pub mod Feeding
 pub mod Handing
@@ -6,6 +7,7 @@ pub mod Lines
 pub mod Meaning
 pub mod Piece
 pub mod Refusing
+pub mod RetryAfter
 pub mod Rules
 pub mod Running
 pub mod Seats
