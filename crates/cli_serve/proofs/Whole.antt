@@ -1,5 +1,6 @@
 -- The builder of a host's client lacks nothing, the client is built, and its seat is opened.
-use Rattle.std.proofs.Common.{◌≡◌, ◌∙◌, ℕ, ◌+◌, ℤ, refl, sym, ap, subst, arith, append_assoc, append-nil, List, [], ◌∷◌, ◌++◌, length, Option, None}
+use Rattle.std.proofs.Common.{◌≡◌, ◌∙◌, ℕ, ◌+◌, ◌≤◌, ℤ, refl, sym, ap, subst, arith, append_assoc, append-nil, List, [], ◌∷◌, ◌++◌, length, Option, None}
+use Rattle.std.proofs.lemmas.List.Sorted.{length_permutation}
 use Rattle.smithy_types.specs.declared.partition.RetryPartition.{RetryPartition}
 use Rattle.smithy_base.specs.declared.intercept.Slot.{Slot}
 use Rattle.json_scripts.specs.declared.client.terms.ClientObject.{ClientObject}
@@ -9,6 +10,7 @@ use Rattle.retry_quota.specs.Registers.{Registers}
 use Rattle.outside_hosted.specs.declared.hosted_outside.HostedOutside.{HostedOutside}
 use Rattle.client_builder.specs.Built.{IsBuiltFrom}
 use Rattle.client_builder.specs.ClientLayer.{merged_layer}
+use Rattle.client_builder.specs.Priority.{IsByPriority}
 use Rattle.client_builder.specs.Refusal.{refusal}
 use Rattle.client_builder.specs.declared.own_interceptor.OwnInterceptor.{OwnInterceptor}
 use Rattle.client_scripted.specs.Clients.{ServiceBuilder, builder_of}
@@ -18,7 +20,9 @@ use Rattle.client_scripted.proofs.Whole.{lacks_nothing}
 use Rattle.host_session.specs.declared.service.deserializer.ErrorRule.{ErrorRule}
 use Rattle.host_session.specs.declared.seat.Seat.{Seat}
 use Rattle.host_session.specs.declared.seat.SeatTerms.{SeatTerms}
-use Rattle.cli_serve.specs.Opening.{BuildsClient, IsFresh, OpensSeat, OpensSeats, ServedBuilder, ServedClient, served_builder}
+use Rattle.host_session.specs.Classifiers.{AddsRetryAfter}
+use Rattle.host_session.specs.declared.service.retry_after.RetryAfterClassifier.{RetryAfterClassifier}
+use Rattle.cli_serve.specs.Opening.{BuildsClient, BuiltComponents, IsFresh, IsServedFrom, OpensSeat, OpensSeats, ServedBuilder, ServedClient, served_builder}
 use Rattle.cli_serve.specs.declared.description.SeatDescription.{SeatDescription}
 
 whole_of : (V W : Type 0) (v : V → Type 0) (w : W → Type 0) (partition : Option RetryPartition) (c : ClientObject) (errors : List ErrorRule) →
@@ -26,11 +30,22 @@ whole_of : (V W : Type 0) (v : V → Type 0) (w : W → Type 0) (partition : Opt
 unfolding builder_of merged_layer
 whole_of V W v w partition c errors = lacks_nothing V W v w partition c
 
+-- what has room for the registered classifiers has room for those that were built
+pub has_room : {C : Type 0} (ranked : C → ℤ) (registered sorted : List C) (capacity : ℕ) → IsByPriority ranked registered sorted → length registered + 1 ≤ capacity → length sorted + 1 ≤ capacity
+has_room ranked registered sorted capacity h room =
+    subst (λ n. n + 1 ≤ capacity) (sym (length_permutation registered sorted h.same)) room
+
 nothing_left : (rest : List SeatDescription) → length rest ≡ 0 → rest ≡ []
 nothing_left [] e = refl
 nothing_left (d ∷ rest) e = absurd (omega (arith, e))
 
 module _ {V W : Type 0} {v : V → Type 0} {w : W → Type 0} where
+  -- the client is built, and its classifiers are those with the one for delays
+  pub served_from : (ranked : Classifier ServiceError V v → ℤ) (b : ServedBuilder V W v w) (outside : HostedOutside) (quota : Registers Pace) (retry_after : Option RetryAfterClassifier)
+      (built : BuiltComponents (Classifier ServiceError V v) (Slot OwnInterceptor W w)) (client : ServedClient (Classifier ServiceError V v) (Slot OwnInterceptor W w)) →
+      IsBuiltFrom ranked b outside quota built → AddsRetryAfter retry_after built client.components → IsServedFrom ranked b outside quota retry_after client
+  served_from ranked b outside quota retry_after built client is adds = record { components = built; built = is; adds = adds }
+
   -- so it is of the builder that was made
   pub whole_served : (b : ServedBuilder V W v w) (made : ServiceBuilder V W v w) (partition : Option RetryPartition) (c : ClientObject) (errors : List ErrorRule) →
       b ≡ served_builder made errors → made ≡ builder_of partition c → refusal b ≡ None
@@ -42,14 +57,14 @@ module _ {V W : Type 0} {v : V → Type 0} {w : W → Type 0} where
   pub client_built : (ranked : Classifier ServiceError V v → ℤ) (start : ℕ) (d : SeatDescription) (partition : Option RetryPartition) (before after own : Registers Pace) (made : ServiceBuilder V W v w) (b : ServedBuilder V W v w)
       (outside : HostedOutside) (world : ServedClient (Classifier ServiceError V v) (Slot OwnInterceptor W w)) →
       PartitionOf d.client.target.service d.client.rules.bucket before partition after → made ≡ builder_of partition d.client → b ≡ served_builder made d.errors → IsFresh start d.seed outside →
-      IsBuiltFrom ranked b outside own world.components → BuildsClient ranked start before d world after
+      IsServedFrom ranked b outside own d.retry_after world → BuildsClient ranked start before d world after
   client_built ranked start d partition before after own made b outside world registered is_made is_served fresh built = record {
     partition = partition;
     registered = registered;
     outside = outside;
     fresh = fresh;
     quota = own;
-    built = subst (λ (x : ServedBuilder V W v w). IsBuiltFrom ranked x outside own world.components)
+    built = subst (λ (x : ServedBuilder V W v w). IsServedFrom ranked x outside own d.retry_after world)
         (is_served ∙ ap (λ (x : ServiceBuilder V W v w). served_builder x d.errors) is_made) built;
   }
 

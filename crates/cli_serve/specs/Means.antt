@@ -8,8 +8,10 @@ use Rattle.client_builder.specs.declared.scheme.Scheme.{Scheme}
 use Rattle.client_retries.specs.Meanings.{InterceptorMeans}
 use Rattle.client_scripted.specs.declared.service.scheme.ServiceScheme.{ServiceScheme}
 use Rattle.cli_client_runs.specs.Means.{quota_means, resolver_polls, scheme_names, scheme_signs}
+use Rattle.host_session.specs.Classifiers.{hosted_says}
 use Rattle.host_session.specs.Meaning.{HostedMeaning}
 use Rattle.host_session.specs.Service.{Serializes, read_outcome}
+use Rattle.host_session.specs.declared.service.classifier.HostedClassifier.{HostedClassifier}
 use Rattle.host_session.specs.declared.service.deserializer.HostedDeserializer.{HostedDeserializer}
 use Rattle.host_session.specs.declared.service.serializer.HostedSerializer.{HostedSerializer}
 use Rattle.identity_cell.specs.declared.no_auth.NoAuthIdentityResolver.{NoAuthIdentityResolver}
@@ -23,14 +25,14 @@ use Rattle.smithy_types.specs.declared.notes.RetryAction.{RetryAction}
 use Rattle.cli_serve.specs.Opening.{ServedClient, ServedTypes}
 
 module _ {C I : Type 0} (says : C → InterceptorContext → RetryAction → RetryAction) (chain : InterceptorMeans I) where
-  -- the meaning of the client's parts, by what its classifiers say and what its interceptors do
-  abbrev pub client_means : ClientMeaning (ServedTypes C I) HostedOutside (Registers Pace) C I (Scheme ServiceScheme)
-      (IdentityResolver NoAuthIdentityResolver) HostedSerializer HostedDeserializer Permit Pace
+  -- the meaning of the client's parts, by what its own classifiers say and what its interceptors do
+  abbrev pub client_means : ClientMeaning (ServedTypes C I) HostedOutside (Registers Pace) (HostedClassifier C) I
+      (Scheme ServiceScheme) (IdentityResolver NoAuthIdentityResolver) HostedSerializer HostedDeserializer Permit Pace
   client_means = record {
     makes = Makes;
     sleeps = λ outside. true;
     quota = quota_means;
-    says = says;
+    says = hosted_says says;
     chain = chain;
     names = scheme_names;
     signs = scheme_signs;

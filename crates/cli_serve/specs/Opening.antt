@@ -12,6 +12,7 @@ use Rattle.outside_hosted.specs.Words.{seeded}
 use Rattle.outside_hosted.specs.declared.call.HostCall.TheVariants.{Idle}
 use Rattle.outside_hosted.specs.declared.hosted_outside.HostedOutside.{HostedOutside}
 use Rattle.client_components.specs.declared.types.TypesOf.{TypesOf}
+use Rattle.client_components.specs.declared.world.RuntimeComponents.{RuntimeComponents}
 use Rattle.client_builder.specs.Built.{IsBuiltFrom}
 use Rattle.client_builder.specs.declared.builder.OperationBuilder.{OperationBuilder}
 use Rattle.client_builder.specs.declared.own_interceptor.OwnInterceptor.{OwnInterceptor}
@@ -22,9 +23,12 @@ use Rattle.client_scripted.specs.Parts.{PartitionOf}
 use Rattle.client_scripted.specs.declared.service.error.ServiceError.{ServiceError}
 use Rattle.client_scripted.specs.declared.service.scheme.ServiceScheme.{ServiceScheme}
 use Rattle.cli_client.specs.Opening.{quota_of}
+use Rattle.host_session.specs.Classifiers.{AddsRetryAfter}
 use Rattle.host_session.specs.declared.hosted.HostedClient.{HostedClient}
+use Rattle.host_session.specs.declared.service.classifier.HostedClassifier.{HostedClassifier}
 use Rattle.host_session.specs.declared.service.deserializer.ErrorRule.{ErrorRule}
 use Rattle.host_session.specs.declared.service.deserializer.HostedDeserializer.{HostedDeserializer}
+use Rattle.host_session.specs.declared.service.retry_after.RetryAfterClassifier.{RetryAfterClassifier}
 use Rattle.host_session.specs.declared.service.serializer.HostedSerializer.{HostedSerializer}
 use Rattle.host_session.specs.declared.seat.Seat.{Seat}
 use Rattle.host_session.specs.declared.session.Session.{Session}
@@ -37,16 +41,26 @@ ServedBuilder V W v w =
     OperationBuilder Payload Payload ServiceError ServiceScheme NoAuthIdentityResolver HostedSerializer
     HostedDeserializer V W v w
 
--- the types of such a client, of classifiers C and interceptors I
-abbrev pub ServedTypes : (C I : Type 0) → Type 0
-ServedTypes C I =
+-- the types of such a client as its builder builds it, of classifiers C and interceptors I
+abbrev pub BuiltTypes : (C I : Type 0) → Type 0
+BuiltTypes C I =
     TypesOf HostedOutside (Registers Pace) C I (Scheme ServiceScheme) (IdentityResolver NoAuthIdentityResolver)
     HostedSerializer HostedDeserializer
+
+-- what it builds
+abbrev pub BuiltComponents : (C I : Type 0) → Type 0
+BuiltComponents C I =
+    RuntimeComponents (BuiltTypes C I) HostedOutside (Registers Pace) C I (Scheme ServiceScheme)
+    (IdentityResolver NoAuthIdentityResolver) HostedSerializer HostedDeserializer Permit Pace
+
+-- the types of such a client as it is served, of own classifiers C and interceptors I
+abbrev pub ServedTypes : (C I : Type 0) → Type 0
+ServedTypes C I = BuiltTypes (HostedClassifier C) I
 
 -- the client
 abbrev pub ServedClient : (C I : Type 0) → Type 0
 ServedClient C I =
-    HostedClient (ServedTypes C I) HostedOutside (Registers Pace) C I (Scheme ServiceScheme)
+    HostedClient (ServedTypes C I) HostedOutside (Registers Pace) (HostedClassifier C) I (Scheme ServiceScheme)
     (IdentityResolver NoAuthIdentityResolver) HostedSerializer HostedDeserializer Permit Pace
 
 -- The outside stands at its first moment, with the random words of a seed. Nothing is open, and nothing was told.
@@ -89,6 +103,14 @@ module _ {V W : Type 0} {v : V → Type 0} {w : W → Type 0} where
     types = record {};
   }
 
+  -- The client is what the builder builds, with a classifier for delays behind its own, if there is one.
+  pub record IsServedFrom (ranked : Classifier ServiceError V v → ℤ) (b : ServedBuilder V W v w)
+      (outside : HostedOutside) (quota : Registers Pace) (retry_after : Option RetryAfterClassifier)
+      (client : ServedClient (Classifier ServiceError V v) (Slot OwnInterceptor W w)) : Type 0 where
+    pub components : BuiltComponents (Classifier ServiceError V v) (Slot OwnInterceptor W w)
+    pub built : IsBuiltFrom ranked b outside quota components
+    pub adds : AddsRetryAfter retry_after components client.components
+
   -- The client of a seat is built over a fresh outside and a quota of its own. Its custom partition gets a limiter of
   -- its own in the shared quota.
   pub record BuildsClient (ranked : Classifier ServiceError V v → ℤ) (start : ℕ) (old : Registers Pace)
@@ -99,8 +121,8 @@ module _ {V W : Type 0} {v : V → Type 0} {w : W → Type 0} where
     pub outside : HostedOutside
     pub fresh : IsFresh start d.seed outside
     pub quota : Registers Pace
-    pub built : IsBuiltFrom ranked (served_builder (builder_of partition d.client) d.errors) outside quota
-        client.components
+    pub built : IsServedFrom ranked (served_builder (builder_of partition d.client) d.errors) outside quota
+        d.retry_after client
 
   -- The seat is of such a client and has this number, and no run is under way.
   pub record OpensSeat (ranked : Classifier ServiceError V v → ℤ) (start number : ℕ) (old : Registers Pace)

@@ -6,11 +6,12 @@ ghost use Rattle.json_forms.specs.Forms.{blob_at, optional_at};
 ghost use Rattle.json_forms.specs.Lists.{list_of};
 ghost use Rattle.json_forms.specs.Reading.{Reads};
 ghost use Rattle.cli_serve.specs.Description.{IsDescription, description_at, description_fits};
-ghost use Rattle.cli_serve.specs.Description.{rule_at, rules_at, seat_at, seat_fits, seats_at};
+ghost use Rattle.cli_serve.specs.Description.{retry_after_at, rule_at, rules_at, seat_at};
+ghost use Rattle.cli_serve.specs.Description.{seat_fits, seats_at};
 ghost use Rattle.cli_serve.specs.Description.{unheld_at};
 ghost use Rattle.json_scripts.specs.Client.Limits.{capacity_fits};
 
-use host_session::service::ErrorRule;
+use host_session::service::{ErrorRule, RetryAfterClassifier};
 use json_forms::forms::read_blob;
 use json_forms::{Arena, ReadError, Value, read};
 use json_scripts::buckets::read_buckets;
@@ -26,7 +27,7 @@ use std::alloc::Global;
 const DESCRIPTION_MEMBERS: usize = 3;
 
 /// How many members the description of a seat has.
-const SEAT_MEMBERS: usize = 3;
+const SEAT_MEMBERS: usize = 4;
 
 /// What a host begins with.
 #[derive(Drop)]
@@ -47,6 +48,8 @@ pub struct SeatDescription {
     pub client: ClientObject,
     /// Which responses are errors of a name: the first rule that a response meets gives it.
     pub errors: List<ErrorRule>,
+    /// By which header a response says how long to wait before a retry, if by any.
+    pub retry_after: Option<RetryAfterClassifier>,
     /// What the client's random words are made of.
     pub seed: u64,
 }
@@ -101,6 +104,31 @@ fn read_rules(alloc: Global, value: &Value) -> Result<List<ErrorRule>, ReadError
     rule_items(alloc, read::items(value)?)
 }
 
+// The name of a header, and how many nanoseconds the unit of its number has.
+#[tactic(auto, unfolding(crate::specs::Description::retry_after_at))]
+fn read_retry_after(alloc: Global, value: &Value) -> Result<RetryAfterClassifier, ReadError>
+    ensures { Reads result (retry_after_at (view value.now)) }
+{
+    let (name, unit) = read::pair(value)?;
+    let name = read::text(alloc, name)?;
+    let unit = read::number(unit)?;
+    Ok(RetryAfterClassifier { name, unit })
+}
+
+// The same, or null.
+#[tactic(auto, unfolding(json_forms::specs::View::view, json_forms::specs::Forms::optional_at))]
+fn read_optional_retry_after(
+    alloc: Global,
+    value: &Value,
+) -> Result<Option<RetryAfterClassifier>, ReadError>
+    ensures { Reads result (optional_at retry_after_at (view value.now)) }
+{
+    match value {
+        Value::Null => Ok(None),
+        _ => Ok(Some(read_retry_after(alloc, value)?)),
+    }
+}
+
 // A client that doesn't hold a response's length to its header.
 #[tactic(auto, unfolding(crate::specs::Description::unheld_at))]
 fn read_unheld(alloc: Global, buckets: usize, value: &Value) -> Result<ClientObject, ReadError>
@@ -122,9 +150,11 @@ fn read_seat(alloc: Global, buckets: usize, value: &Value) -> Result<SeatDescrip
     let seed = read::number(read::member(value, "seed")?)?;
     let client = read_unheld(alloc, buckets, read::member(value, "client")?)?;
     let errors = read_rules(alloc, read::member(value, "errors")?)?;
+    let retry_after = read_optional_retry_after(alloc, read::member(value, "retry_after")?)?;
     Ok(SeatDescription {
         client,
         errors,
+        retry_after,
         seed,
     })
 }

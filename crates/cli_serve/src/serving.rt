@@ -116,6 +116,7 @@ fn open_and_serve<S: Source, K: Sink>(
         let SeatDescription {
             client,
             errors,
+            retry_after,
             seed,
         } = seat;
         let service = &client.target.service;
@@ -123,7 +124,13 @@ fn open_and_serve<S: Source, K: Sink>(
         let (builder, _identities) = prepare(alloc, client, partition)?;
         let outside = first_outside(alloc, start, seed);
         let own_quota = Registry::new(alloc)?;
-        let world = build(alloc, served(builder, errors), outside, own_quota)?;
+        let world = build(
+            alloc,
+            served(builder, errors),
+            outside,
+            own_quota,
+            retry_after,
+        )?;
         let terms = terms_of(seats.len() as u64);
         seats.reserve(1)?;
         seats.push_reserved(Seat {
