@@ -24,7 +24,8 @@ from concurrent.futures import Future, ThreadPoolExecutor
 from typing import Any, Dict, List, Tuple
 from unittest import mock
 
-from .support.flaky_server import OK, Act, Server, accept_token, answer, cut, drip, hold, stall
+from .support.flaky_server import OK, Act, Server, accept_token, answer, cut, drip, gather, hold
+from .support.flaky_server import stall
 from .support.program import TOP, ProgramTest, path
 from .support.stand_in import StandIn
 
@@ -42,6 +43,7 @@ if HAS_URLLIB3:
 
     import wishqoram
     from wishqoram import Client, Engine, Request, Retry
+    from wishqoram.description import description_of
     from wishqoram.protocol import Begin, Done, Park, Poison, WireRequest
 
 PATIENCE = 60.0  # seconds after which a call is given up, and its test fails
@@ -56,7 +58,7 @@ WAITING_HOST = """
 import sys
 from wishqoram import Client, Engine, Request
 engine = Engine({"a": Client(sys.argv[1])})
-print(*engine.process_ids, flush=True)
+print(engine.process_id, flush=True)
 engine.invoke("a", Request("GET", "/x"))
 """
 
@@ -86,7 +88,7 @@ def at_once(**named: Any) -> "Retry":
 
 
 class HostTest(ProgramTest):
-    """A test with a server, and an engine of one client, `a`, whose runs are recorded."""
+    """A test with a server, and an engine with a client `a`, whose runs are recorded."""
 
     def setUp(self) -> None:
         if not HAS_URLLIB3:
@@ -104,8 +106,8 @@ class HostTest(ProgramTest):
         self.addCleanup(server.__exit__)
         return server
 
-    def engine(self, client: "Client", **named: Any) -> "Engine":
-        engine = Engine({"a": client}, program=path(), **named)
+    def engine(self, client: "Client", *others: Any, **named: Any) -> "Engine":
+        engine = Engine({"a": client, **dict(others)}, program=path(), **named)
         self.addCleanup(engine.close)
         self.recording = engine.record(self.folder)
         return engine
@@ -113,9 +115,9 @@ class HostTest(ProgramTest):
     def client(self, server: Server, **named: Any) -> "Client":
         return Client(server.url, **{"retry": at_once(), **named})
 
-    def asked(self, engine: "Engine", *request: Any, **named: Any) -> Any:
+    def asked(self, engine: "Engine", *request: Any, of: str = "a", **named: Any) -> Any:
         named.setdefault("timeout", PATIENCE)
-        return engine.invoke("a", Request(*(request or GET)), **named)
+        return engine.invoke(of, Request(*(request or GET)), **named)
 
     def begun(self, work: Any, *given: Any, **named: Any) -> "Future[Any]":
         """What comes of this work, which is done in a thread of its own."""
@@ -263,15 +265,69 @@ class RetryTest(HostTest):
         self.assertEqual((error.name, error.response.status, error.attempts), ("failed", 200, 2))
         self.check_recorded(1)
 
-    def test_a_bucket_ends_the_retries_of_eight_threads(self):
-        server = self.serve(*[answer(503)] * 99)
+
+class SeatTest(HostTest):
+    """Runs that go on at once, and what they share."""
+
+    def test_eight_runs_at_once_are_granted_what_their_bucket_has(self):
+        server = self.serve(*[gather(8, answer(503))] * 8, *[answer(503)] * 99)
         bucket = wishqoram.Bucket(capacity=120, transient_cost=10)
-        engine = self.engine(self.client(server, bucket="b"), buckets={"b": bucket})
+        client = self.client(server, bucket="tokens", seats=8)
+        engine = self.engine(client, buckets={"tokens": bucket})
         calls = [self.begun(self.asked, engine) for _ in range(8)]
         for call in calls:
             self.assertIsInstance(call.exception(PATIENCE), wishqoram.ServiceError)
         self.assertEqual(len(server.seen), 8 + 120 // 10)
+        sums = engine.sums()["tokens"]
+        self.assertEqual((sums.capacity, sums.granted, sums.available), (120, 0, 0))
+        self.assertEqual(sums.held + sums.forgotten, 120)
         self.check_recorded(8)
+
+    def test_clients_pay_from_the_bucket_that_they_share(self):
+        server = self.serve(*[answer(503)] * 9)
+        buckets = {"own": wishqoram.Bucket(), "shared": wishqoram.Bucket(capacity=20)}
+        client = self.client(server, bucket="shared")
+        engine = self.engine(client, ("b", client), buckets=buckets)
+        for name in ("a", "b"):
+            with self.assertRaises(wishqoram.ServiceError):
+                self.asked(engine, of=name)
+        self.assertEqual(len(server.seen), 3 + 1)
+        sums = {"own": (500, 0, 500, 0, 0), "shared": (20, 0, 0, 10, 10)}
+        self.assertEqual(engine.sums(), sums)
+        self.check_recorded(2)
+
+    def test_a_run_waits_where_no_seat_is_free(self):
+        open_gate = threading.Event()
+        self.addCleanup(open_gate.set)
+        server = self.serve(*[hold(open_gate)] * 2)
+        engine = self.engine(self.client(server, seats=2))
+        calls = [self.begun(self.asked, engine) for _ in range(3)]
+        self.assertTrue(until(lambda: engine._clients["a"].turns.waiting == 1))
+        self.assertTrue(until(lambda: len(server.seen) == 2))
+        open_gate.set()
+        for call in calls:
+            self.assertEqual(call.result(PATIENCE).body, OK)
+        self.check_recorded(3)
+
+    def test_each_seat_loads_its_identity_once(self):
+        loads: List[int] = []
+        source = wishqoram.BearerToken(lambda: loads.append(1) or SECRET)
+        server = self.serve(*[gather(2, answer(200))] * 2)
+        engine = self.engine(self.client(server, auth=[source], seats=3))
+        calls = [self.begun(self.asked, engine) for _ in range(2)]
+        for call in calls:
+            call.result(PATIENCE)
+        for _ in range(3):
+            self.asked(engine)
+        self.assertEqual(len(loads), 2)
+
+    def test_a_client_is_described_for_each_seat_with_a_seed_of_its_own(self):
+        clients = {"a": Client("http://a"), "b": Client("http://b", service="s", seats=2)}
+        seats = description_of(clients, {}, 0, 7)["clients"]
+        told = [(seat["client"]["service"], seat["seed"]) for seat in seats]
+        self.assertEqual(told, [("a", 7), ("s", 8), ("s", 9)])
+        drawn = {seat["seed"] for seat in description_of(clients, {}, 0, None)["clients"]}
+        self.assertEqual(len(drawn), 3)
 
 
 class EndTest(HostTest):
@@ -331,11 +387,11 @@ class EndTest(HostTest):
         self.assert_left()
         with self.assertRaises(wishqoram.EngineClosed):
             self.asked(engine)
-        self.assertTrue(until(lambda: not any(map(is_running, engine.process_ids))))
+        self.assertTrue(until(lambda: not is_running(engine.process_id)))
 
     def test_a_killed_engine_ends_its_runs_with_a_clear_error(self):
         engine = self.engine(self.client(self.server))
-        process = engine.process_ids[0]
+        process = engine.process_id
         self.when_asked(lambda: os.kill(process, signal.SIGKILL))
         for _ in range(2):
             with self.assertRaisesRegex(wishqoram.ProgramEnded, "ended by signal 9") as raised:
@@ -346,7 +402,7 @@ class EndTest(HostTest):
 
     def test_an_engine_that_nobody_has_any_more_ends_its_process(self):
         engine = Engine({"a": self.client(self.server)}, program=path())
-        process = engine.process_ids[0]
+        process = engine.process_id
         self.assertTrue(is_running(process))
         del engine
         gc.collect()
@@ -392,11 +448,11 @@ class ConnectionTest(HostTest):
         self.addCleanup(all_wait.set)
         server = self.serve(hold(all_wait))
         engine = self.engine(self.client(server))
-        turns = engine._seats["a"].turns
+        turns = engine._clients["a"].turns
         calls = []
         for number in range(6):
             calls.append(self.begun(self.asked, engine, "GET", f"/{number}"))
-            self.assertTrue(until(lambda: len(turns._waiting) == number + 1))
+            self.assertTrue(until(lambda: server.seen and turns.waiting == number))
         all_wait.set()
         for call in calls:
             call.result(PATIENCE)
@@ -405,13 +461,11 @@ class ConnectionTest(HostTest):
 
     def test_two_clients_run_side_by_side(self):
         server = self.serve(stall(), answer(200))
-        clients = {"a": self.client(server), "b": self.client(server)}
-        engine = Engine(clients, program=path())
-        self.addCleanup(engine.close)
+        engine = self.engine(self.client(server), ("b", self.client(server)))
         cancellation = wishqoram.Cancellation()
         waiting = self.begun(self.asked, engine, cancellation=cancellation)
         self.assertTrue(until(lambda: server.seen))
-        self.assertEqual(engine.invoke("b", Request(*GET), timeout=PATIENCE).status, 200)
+        self.assertEqual(self.asked(engine, of="b").status, 200)
         self.assertFalse(waiting.done())
         cancellation.cancel()
         self.assertIsInstance(waiting.exception(PATIENCE), wishqoram.Cancelled)
@@ -608,6 +662,5 @@ class UseTest(HostTest):
             Engine({"a": Client("http://localhost")}, program="/no/such/program")
         with self.assertRaises(ValueError):
             Engine({"a": Client("http://localhost", bucket="none")}, program=path())
-        with self.assertRaisesRegex(ValueError, "serves one client"):
-            client = Client("http://localhost", bucket="b")
-            Engine({"a": client, "c": client}, {"b": wishqoram.Bucket()}, program=path())
+        with self.assertRaises(ValueError):
+            Client("http://localhost", seats=0)

@@ -144,6 +144,17 @@ def hold(until: threading.Event) -> Act:
     return act
 
 
+def gather(count: int, then: Act) -> Act:
+    """What so many requests get, once all of them are there."""
+    all_there = threading.Barrier(count, timeout=60)
+
+    def act(handler: Handler) -> None:
+        all_there.wait()
+        then(handler)
+
+    return act
+
+
 def cut(body: bytes, length: int) -> Act:
     """A body that breaks off before it has this length."""
 

@@ -6,7 +6,6 @@ class StandIn:
     """What `wishqoram.engine.Program` is put aside for: a program that a function answers for."""
 
     id = 0
-    seats = 1
 
     def __init__(self, answer: Callable[[List[Any]], List[Any]]):
         self._answer = answer

@@ -8,7 +8,7 @@
 The engine runs as a child process, `smithy_replay serve`. It does no I/O of its own. This package
 has the connections (urllib3), the clock and the identities.
 """
-from .client import Bucket, Client, ErrorRule, Retry
+from .client import Bucket, Client, ErrorRule, Retry, Sums
 from .engine import Engine
 from .errors import (
     BodyError,
@@ -67,6 +67,7 @@ __all__ = [
     "SdkError",
     "SdkTimeoutError",
     "ServiceError",
+    "Sums",
     "Unfinished",
     "WishqoramError",
     "script_for_replay",

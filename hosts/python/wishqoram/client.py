@@ -1,6 +1,6 @@
 """What the engine is told of a client. Spans are seconds, tokens are whole or parts of one."""
 from dataclasses import dataclass, field
-from typing import Any, List, Mapping, Optional, Sequence
+from typing import Any, List, Mapping, NamedTuple, Optional, Sequence
 
 from .clock import nanoseconds, optional_nanoseconds
 from .identities import AuthScheme, IdentityCache
@@ -28,6 +28,20 @@ class Bucket:
     def form(self) -> List[int]:
         costs = [self.retry_cost, self.throttling_cost, self.transient_cost]
         return [self.capacity, *costs, round(self.reward * 1000), round(self.rate * 1000)]
+
+
+class Sums(NamedTuple):
+    """The tokens of a bucket. Those that are available, held and forgotten are together its
+    capacity and what was granted."""
+
+    capacity: int
+    granted: int
+    """What successes and time added."""
+    available: int
+    held: int
+    """What open retries took, or the last one of a run that failed."""
+    forgotten: int
+    """What is lost for good, since a further retry was paid."""
 
 
 @dataclass(frozen=True)
@@ -77,11 +91,12 @@ class Client:
 
     url: str
     """Where requests go. The path of a request is put behind it."""
-    service: str = "service"
+    service: Optional[str] = None
+    """Without it the client's name counts. Clients of one service share its own bucket."""
     operation: str = "operation"
     bucket: Optional[str] = None
-    """One of the engine's buckets. Without it the service's own has 500 tokens, and gets one back
-    for each success."""
+    """One of the engine's buckets, which any clients may share. Without it the service's own has
+    500 tokens, and gets one back for each success."""
     retry: Optional[Retry] = field(default_factory=Retry)
     """None makes one attempt."""
     connect_timeout: Optional[float] = None
@@ -105,13 +120,19 @@ class Client:
     auth: Sequence[AuthScheme] = ()
     """The schemes that may sign, the preferred one first. Without one requests aren't signed."""
     identity_cache: Optional[IdentityCache] = field(default_factory=IdentityCache)
-    """None loads an identity for each attempt."""
+    """None loads an identity for each attempt. Each seat has a cache of its own."""
+    seats: int = 1
+    """How many runs it may have at once. Further ones wait for their turn."""
 
-    def form(self, bucket: Optional[int]) -> Any:
-        """The client object of a description, with the place of its bucket."""
+    def __post_init__(self) -> None:
+        if self.seats < 1:
+            raise ValueError(f"a client has 1 seat or more, not {self.seats!r}")
+
+    def form(self, name: str, bucket: Optional[int]) -> Any:
+        """The client object of a description, by its name and the place of its bucket."""
         retry = self.retry
         return {
-            "service": self.service,
+            "service": name if self.service is None else self.service,
             "operation": self.operation,
             "bucket": bucket,
             "retry": "never" if retry is None else retry.form(),

@@ -27,6 +27,7 @@ from .protocol import BODY_LIMIT, Begin, Header, WireRequest, header_rows
 from .identities import Vault
 
 USER_AGENT = "wishqoram/0.2.0"
+LEAST_KEPT = 8  # connections to a server that are kept, and servers that they are kept for
 NAME = re.compile(r"[!#$%&'*+.^_`|~0-9A-Za-z-]+")
 VALUE = re.compile(r"[\t\x20-\x7e\x80-\xff]*")
 
@@ -99,11 +100,12 @@ class Reading(NamedTuple):
 
 
 class Connections:
-    """The connections of a client, and the requests on them."""
+    """The connections of a client with so many seats, and the requests on them."""
 
-    def __init__(self, ssl_context: Optional[ssl.SSLContext], size: int = 8):
+    def __init__(self, ssl_context: Optional[ssl.SSLContext], seats: int):
+        size = max(seats, LEAST_KEPT)
         self._pools = urllib3.PoolManager(
-            num_pools=size, maxsize=size, retries=False, **_tls(ssl_context)
+            num_pools=LEAST_KEPT, maxsize=size, retries=False, **_tls(ssl_context)
         )
         self._pools.pool_classes_by_scheme = {"http": _HTTPPool, "https": _HTTPSPool}
         self._calls: "weakref.WeakSet[Call]" = weakref.WeakSet()

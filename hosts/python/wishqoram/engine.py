@@ -1,45 +1,47 @@
 """The engine, as a caller sees it."""
-import random
 import ssl
 import threading
-from contextlib import ExitStack, contextmanager, nullcontext
-from typing import Any, Dict, Iterator, List, Mapping, Optional, Tuple
+from contextlib import contextmanager, nullcontext
+from typing import Dict, Iterator, List, Mapping, Optional
 
-from .client import Bucket, Client
+from .client import Bucket, Client, Sums
 from .clock import Clock, nanoseconds
 from .connections import Connections
 from .decisions import are_logged, log
+from .description import description_of
 from .errors import EngineClosed, InvocationTimeout, ProgramEnded
 from .identities import Vault
 from .inbox import Inbox
 from .messages import Request, Response
-from .program import Path, Program, find_program
+from .open_client import OpenClient
+from .program import Path, Program, find_program, refusal_in
+from .protocol import BucketSums
 from .recording import Recording
-from .run import Run, Seat, Terms
+from .run import Run, Terms
 from .turns import Cancellation
 
 FUEL = 100_000
 PATIENCE = 5.0  # seconds that runs have to end, once the engine is closed
-SEED_BITS = 64
 
 
 class Engine:
     """Sends requests. The proved program decides what is sent, signed, tried again and given up.
 
-    Each client has a program of its own, a child process, and makes one run at a time: further ones
-    wait for their turn, in the order in which they came. As a context manager it ends with all
-    that is open, and leaves no process behind.
+    All clients are in one program, a child process, and their runs go on beside each other. A
+    client makes as many runs at once as it has seats: further ones wait for their turn, in the
+    order in which they came. As a context manager it ends with all that is open, and leaves no
+    process behind.
 
     clients: by names of your own.
-    buckets: budgets of retries, by the names that clients have for them. Today a bucket serves one
-        client: two that name the same one are refused.
+    buckets: budgets of retries, by the names that clients have for them. Clients that name the
+        same one share it.
     program: the path of `smithy_replay`. Without it the environment's WISHQORAM_PROGRAM counts,
         and else the repository that this package lies in.
     secrets: `"host"` keeps tokens and keys from the engine, which signs with stand-ins.
         `"engine"` hands them in, and so they are in recorded runs.
     fuel: the most questions of a run. One of three attempts asks about a hundred.
     ssl_context: for addresses of https; without it the system's authorities count.
-    seed: makes the random parts of pauses the same each time. For tests.
+    seed: makes the random parts of pauses the same each time: those of each seat. For tests.
     """
 
     def __init__(
@@ -55,46 +57,24 @@ class Engine:
     ):
         if secrets not in ("host", "engine"):
             raise ValueError('secrets is "host" or "engine"')
-        self._check_buckets(clients, buckets or {})
         self._clock = Clock()
+        self._buckets = list(buckets or {})
         self._fuel = fuel
         self._recording: Optional[Recording] = None
         self._changed = threading.Condition()
-        self._runs: List[Tuple[Inbox, Seat]] = []
+        self._runs: List[Inbox] = []
         self._is_closed = False
-        self._seats: Dict[str, Seat] = {}
-        path = find_program(program)
-        with ExitStack() as opened:
-            for name, client in clients.items():
-                connections = Connections(ssl_context)
-                description = self._description(client, buckets or {}, seed)
-                started = Program(path, description, self._tell_end_of(name))
-                opened.callback(started.close)
-                vault = Vault(secrets == "host")
-                self._seats[name] = Seat(started, 0, name, client, vault, connections)
-            opened.pop_all()
-
-    @staticmethod
-    def _check_buckets(clients: Mapping[str, Client], buckets: Mapping[str, Bucket]) -> None:
-        named = [client.bucket for client in clients.values() if client.bucket is not None]
-        for name in named:
-            if name not in buckets:
-                raise ValueError(f"there is no bucket {name!r}")
-            if named.count(name) > 1:
-                raise ValueError(f"bucket {name!r} serves one client, since each has a program")
-
-    def _description(
-        self, client: Client, buckets: Mapping[str, Bucket], seed: Optional[int]
-    ) -> Any:
-        names = list(buckets)
-        place = None if client.bucket is None else names.index(client.bucket)
-        return {
-            "buckets": [bucket.form() for bucket in buckets.values()],
-            "start": self._clock.now(),
-            "seed": random.SystemRandom().getrandbits(SEED_BITS) if seed is None else seed,
-            "errors": client.error_rows(),
-            "client": client.form(place),
-        }
+        description = description_of(clients, buckets or {}, self._clock.now(), seed)
+        self._program = Program(find_program(program), description, self._tell_end)
+        self._clients: Dict[str, OpenClient] = {}
+        first = 0
+        for name, client in clients.items():
+            seats = range(first, first + client.seats)
+            first += client.seats
+            connections = Connections(ssl_context, client.seats)
+            vault = Vault(secrets == "host")
+            open_client = OpenClient(self._program, name, client, seats, vault, connections)
+            self._clients[name] = open_client
 
     def invoke(
         self,
@@ -117,16 +97,16 @@ class Engine:
         the caller does, `BodyError` where the rest of a body broke off, and `EngineError` where
         the engine is closed or its program ended.
         """
-        seat = self._seat(client)
+        owner = self._client(client)
         until = None if timeout is None else self._clock.now() + nanoseconds(timeout)
         inbox = Inbox(self._clock)
         watched = nullcontext() if cancellation is None else cancellation.watching(inbox)
-        with self._open_run(inbox, seat), watched, seat.turns.turn(inbox, until) as has_turn:
-            if not has_turn:
+        with self._open_run(inbox), watched, owner.turns.turn(inbox, until) as seat:
+            if seat is None:
                 raise InvocationTimeout(timeout or 0.0)
             is_logged = self._is_recorded() or are_logged()
             terms = Terms(self._fuel, stream, is_logged, until, timeout or 0.0)
-            run = Run(seat, request, terms, inbox, self._clock)
+            run = Run(owner, seat, request, terms, inbox, self._clock)
             try:
                 return run.drive()
             finally:
@@ -141,21 +121,30 @@ class Engine:
         self._recording = Recording(folder)
         return self._recording
 
+    def sums(self) -> Dict[str, Sums]:
+        """The tokens of each bucket, by its name."""
+        replies = self._program.say(["sums"])
+        refused = refusal_in(replies)
+        if refused:
+            raise refused
+        sums = [Sums(*reply.sums) for reply in replies if isinstance(reply, BucketSums)]
+        return dict(zip(self._buckets, sums))
+
     @property
-    def process_ids(self) -> Tuple[int, ...]:
-        """The programs' processes."""
-        return tuple(sorted({seat.program.id for seat in self._seats.values()}))
+    def process_id(self) -> int:
+        """The program's process."""
+        return self._program.id
 
     def close(self) -> None:
         """Ends all that is open. The runs raise `EngineClosed`. Waits until no process is left."""
         with self._changed:
             self._is_closed = True
-            for inbox, _ in self._runs:
+            for inbox in self._runs:
                 inbox.interrupt(EngineClosed())
             self._changed.wait_for(lambda: not self._runs, PATIENCE)
-        for seat in self._seats.values():
-            seat.connections.close()
-            seat.program.close()
+        for client in self._clients.values():
+            client.connections.close()
+        self._program.close()
 
     def __enter__(self) -> "Engine":
         return self
@@ -163,37 +152,31 @@ class Engine:
     def __exit__(self, *_: Optional[object]) -> None:
         self.close()
 
-    def _seat(self, client: str) -> Seat:
+    def _client(self, name: str) -> OpenClient:
         try:
-            return self._seats[client]
+            return self._clients[name]
         except KeyError:
-            raise ValueError(f"there is no client {client!r}") from None
+            raise ValueError(f"there is no client {name!r}") from None
 
     @contextmanager
-    def _open_run(self, inbox: Inbox, seat: Seat) -> Iterator[None]:
+    def _open_run(self, inbox: Inbox) -> Iterator[None]:
         """Counts a run as open, so that the engine's end ends it."""
         with self._changed:
             if self._is_closed:
                 raise EngineClosed()
-            run = (inbox, seat)
-            self._runs.append(run)
+            self._runs.append(inbox)
         try:
             yield
         finally:
             with self._changed:
-                self._runs.remove(run)
+                self._runs.remove(inbox)
                 self._changed.notify_all()
 
-    def _tell_end_of(self, client: str) -> Any:
-        """What is done if the program of this client ends."""
-
-        def tell(why: ProgramEnded) -> None:
-            with self._changed:
-                for inbox, seat in self._runs:
-                    if seat.name == client:
-                        inbox.interrupt(why)
-
-        return tell
+    def _tell_end(self, why: ProgramEnded) -> None:
+        """Ends all runs, since the program ended."""
+        with self._changed:
+            for inbox in self._runs:
+                inbox.interrupt(why)
 
     def _is_recorded(self) -> bool:
         return self._recording is not None and not self._recording.is_ended

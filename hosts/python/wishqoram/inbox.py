@@ -25,7 +25,8 @@ class Inbox:
         self._changed = threading.Condition()
         self._events: Deque[Event] = deque()
         self._interruption: Optional[WishqoramError] = None
-        self._has_turn = False
+        self.seat: Optional[int] = None
+        """The number of the seat that the run was given."""
 
     def put(self, event: Event) -> None:
         with self._changed:
@@ -48,19 +49,19 @@ class Inbox:
             self._interruption = self._interruption or why
             self._changed.notify_all()
 
-    def give_turn(self) -> None:
+    def give_seat(self, number: int) -> None:
         with self._changed:
-            self._has_turn = True
+            self.seat = number
             self._changed.notify_all()
 
-    def wait_for_turn(self, until: Optional[int]) -> bool:
-        """Whether the turn came before this moment."""
+    def wait_for_seat(self, until: Optional[int]) -> Optional[int]:
+        """The seat, where one was given before this moment."""
         with self._changed:
-            while not (self._has_turn or self._is_past(until)):
+            while self.seat is None and not self._is_past(until):
                 self._raise_interruption()
                 self._wait(until)
             self._raise_interruption()
-            return self._has_turn
+            return self.seat
 
     def take(self, until: Optional[int]) -> List[Event]:
         """All that came. Waits until something is there, or until this moment."""

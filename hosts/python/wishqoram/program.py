@@ -59,7 +59,7 @@ class Program:
         self._hang_up = weakref.finalize(self, _hang_up, self._process)
         self.id = self._process.pid
         try:
-            self.seats = self._opened(description)
+            self._open(description)
         except BaseException:
             self.close()
             raise
@@ -82,11 +82,10 @@ class Program:
             self._errors.close()
             raise ProgramNotFound(f"{path} can't be started: {error.strerror}") from error
 
-    def _opened(self, description: Any) -> int:
+    def _open(self, description: Any) -> None:
         reply = self.say(description)[-1]
-        if not isinstance(reply, Opened):
+        if reply != Opened(len(description["clients"])):
             raise EngineError(f"the engine answers a description by {reply!r}")
-        return reply.seats
 
     def say(self, message: Any) -> List[Reply]:
         """One exchange: a line, and the lines that answer it."""

@@ -72,6 +72,17 @@ class RefusedLine(NamedTuple):
     why: str
 
 
+class BucketSums(NamedTuple):
+    """What the bucket of this number holds: the numbers of `Sums`."""
+
+    number: int
+    sums: List[int]
+
+
+class End(NamedTuple):
+    """There is no more of an answer."""
+
+
 class Entry(NamedTuple):
     """A question of the run's log, its answer, and the line that they stand in."""
 
@@ -80,7 +91,9 @@ class Entry(NamedTuple):
     text: bytes
 
 
-Reply = Union[Opened, Begin, LoadIdentity, Poison, Park, Done, RefusedLine, Entry]
+Reply = Union[
+    Opened, Begin, LoadIdentity, Poison, Park, Done, RefusedLine, BucketSums, End, Entry
+]
 
 PLAIN: Dict[str, Callable[..., Reply]] = {
     "opened": Opened,
@@ -88,10 +101,12 @@ PLAIN: Dict[str, Callable[..., Reply]] = {
     "poison": Poison,
     "park": Park,
     "refused": RefusedLine,
+    "bucket": BucketSums,
+    "end": End,
 }
 """The lines whose parts are plain, by their words."""
 
-LAST = (Opened, Park, Done, RefusedLine)
+LAST = (Opened, Park, Done, RefusedLine, End)
 """The last line of each answer is one of these."""
 
 

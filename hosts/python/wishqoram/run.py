@@ -5,44 +5,23 @@ import threading
 from typing import Any, Dict, List, NamedTuple, Optional
 
 from .bodies import OutgoingBody, outgoing
-from .client import Client
 from .clock import NANOSECONDS, Clock, earliest
-from .connections import Call, Connections, Reading
+from .connections import Call, Reading
 from .decisions import log_decisions
 from .endings import raise_ending, response_in
 from .errors import EngineError, InvocationTimeout
 from .identities import AuthScheme, Vault, identity_of
 from .inbox import Event, Inbox
 from .messages import Request, Response
-from .program import Program, refusal_in
+from .open_client import OpenClient
+from .program import refusal_in
 from .protocol import Begin, Done, Entry, LoadIdentity, Park, Poison, Reply
 from .protocol import OUTPUT_KIND, blob_of, header_rows
 from .recording import head_of
-from .turns import Turns
 
 log = logging.getLogger("wishqoram")
 
 WATCH = 100_000_000  # ns: the engine's guard of streams judges by what tenths of a second show
-
-
-class Seat:
-    """A client of a program, and what its runs share."""
-
-    def __init__(
-        self,
-        program: Program,
-        number: int,
-        name: str,
-        client: Client,
-        vault: Vault,
-        connections: Connections,
-    ):
-        self.program, self.number, self.name = program, number, name
-        self.client, self.vault, self.connections = client, vault, connections
-        self.turns = Turns()
-
-    def scheme(self, scheme_id: str) -> AuthScheme:
-        return next(scheme for scheme in self.client.auth if scheme.id == scheme_id)
 
 
 class Terms(NamedTuple):
@@ -86,11 +65,20 @@ class Load:
 class Run:
     """One run at a seat, driven by its caller's thread."""
 
-    def __init__(self, seat: Seat, request: Request, terms: Terms, inbox: Inbox, clock: Clock):
-        self._seat, self._terms, self._inbox, self._clock = seat, terms, inbox, clock
+    def __init__(
+        self,
+        owner: OpenClient,
+        seat: int,
+        request: Request,
+        terms: Terms,
+        inbox: Inbox,
+        clock: Clock,
+    ):
+        self._owner, self._seat = owner, seat
+        self._terms, self._inbox, self._clock = terms, inbox, clock
         self._body: OutgoingBody = outgoing(request.body)
         self._payload = self._payload_of(request)
-        self._reading = Reading(seat.client.stall_grace is not None, terms.is_streamed)
+        self._reading = Reading(owner.client.stall_grace is not None, terms.is_streamed)
         self._calls: List[Call] = []
         self._captured: Dict[int, Call] = {}
         self._call: Optional[Call] = None
@@ -109,7 +97,7 @@ class Run:
     def drive(self) -> Response:
         """Drives the run to its end, and answers by its response or raises its error."""
         done = self._driven()
-        log_decisions(self._seat.name, self._entries, done, len(self._calls))
+        log_decisions(self._owner.name, self._entries, done, len(self._calls))
         last = self._calls[-1] if self._calls else None
         try:
             response = response_in(done.ending, last, len(self._calls))
@@ -131,12 +119,12 @@ class Run:
 
     def _driven(self) -> Done:
         terms = self._terms
-        begin = ["invoke", self._seat.number, self._clock.now(), self._payload]
+        begin = ["invoke", self._seat, self._clock.now(), self._payload]
         try:
             self._take([*begin, terms.fuel, "None", terms.is_logged])
             while self._done is None:
                 events = self._await_events()
-                self._take(["at", self._seat.number, self._clock.now(), events])
+                self._take(["at", self._seat, self._clock.now(), events])
             return self._done
         except BaseException:
             self._give_up()
@@ -144,7 +132,7 @@ class Run:
 
     def _take(self, message: List[Any]) -> None:
         """Says something, and does what the engine answers."""
-        replies = self._seat.program.say(message)
+        replies = self._owner.program.say(message)
         refused = refusal_in(replies)
         if refused:
             raise refused
@@ -155,8 +143,8 @@ class Run:
         if isinstance(reply, Begin):
             self._begin(reply)
         elif isinstance(reply, LoadIdentity):
-            self._load = Load(self._seat.scheme(reply.scheme), self._seat.vault, self._inbox)
-            log.debug("%s: loads an identity of %s", self._seat.name, reply.scheme)
+            self._load = Load(self._owner.scheme(reply.scheme), self._owner.vault, self._inbox)
+            log.debug("%s: loads an identity of %s", self._owner.name, reply.scheme)
             self._load.start()
         elif isinstance(reply, Poison):
             self._poison(reply)
@@ -171,9 +159,9 @@ class Run:
         if self._call is not None:
             self._call.drop()
         number = len(self._calls) + 1
-        log.debug("%s: request %d goes out", self._seat.name, number)
-        seat = self._seat
-        call = seat.connections.begin(begin, self._body, seat.vault, self._reading, self._inbox)
+        log.debug("%s: request %d goes out", self._owner.name, number)
+        owner = self._owner
+        call = owner.connections.begin(begin, self._body, owner.vault, self._reading, self._inbox)
         self._calls.append(call)
         self._call = call
         if begin.capture is not None:
@@ -182,7 +170,7 @@ class Run:
     def _poison(self, poison: Poison) -> None:
         """Closes a connection. That the open call breaks off by this is no news for the engine,
         which doesn't read on."""
-        log.debug("%s: connection %d isn't used again", self._seat.name, poison.capture)
+        log.debug("%s: connection %d isn't used again", self._owner.name, poison.capture)
         call = self._captured[poison.capture]
         call.poison()
         if call is self._call:
@@ -198,7 +186,7 @@ class Run:
             self._load = None
         if park.call is None and park.scheme is None and park.wake is not None:
             pause = max(0, park.wake - self._clock.now()) / NANOSECONDS
-            log.debug("%s: waits %.3f s", self._seat.name, pause)
+            log.debug("%s: waits %.3f s", self._owner.name, pause)
 
     def _await_events(self) -> List[Any]:
         """What came of what is open. Nothing, where it is time to wake the run."""
@@ -226,7 +214,7 @@ class Run:
         self._cause = error or self._cause
         if message[0] == "response":
             self._cause = None
-            log.debug("%s: request %d gets %d", self._seat.name, len(self._calls), message[2])
+            log.debug("%s: request %d gets %d", self._owner.name, len(self._calls), message[2])
         if message[0] == "data":
             return [*message[:2], blob_of(bytes(message[2]))]
         return message
@@ -247,7 +235,7 @@ class Run:
         if self._done is not None:
             return
         try:
-            replies = self._seat.program.say(["give_up", self._seat.number, self._clock.now()])
+            replies = self._owner.program.say(["give_up", self._seat, self._clock.now()])
         except EngineError:
             return  # it is told as what ended the run
         for reply in replies:

@@ -1,41 +1,54 @@
-"""Turns at a seat, and the cancelling of invocations."""
+"""Turns at the seats of a client, and the cancelling of invocations."""
 import threading
 from collections import deque
 from contextlib import contextmanager
-from typing import Deque, Iterator, List, Optional
+from typing import Deque, Iterator, List, Optional, Sequence
 
 from .errors import Cancelled
 from .inbox import Inbox
 
 
 class Turns:
-    """One run at a time, in the order of asking."""
+    """One run at a time at each seat. Those that find none free wait, in the order of asking.
 
-    def __init__(self) -> None:
+    The seat that was left last is taken first: it is the one whose cache has an identity.
+    """
+
+    def __init__(self, seats: Sequence[int]):
         self._lock = threading.Lock()
+        self._free: List[int] = list(reversed(seats))
         self._waiting: Deque[Inbox] = deque()
 
     @contextmanager
-    def turn(self, inbox: Inbox, until: Optional[int]) -> Iterator[bool]:
-        """Waits for this run's turn, until this moment in nanoseconds. Says whether it came."""
+    def turn(self, inbox: Inbox, until: Optional[int]) -> Iterator[Optional[int]]:
+        """Waits for a seat for this run, until this moment in nanoseconds. Answers by the seat's
+        number, or by nothing where none was free in time."""
         self._ask(inbox)
         try:
-            yield inbox.wait_for_turn(until)
+            yield inbox.wait_for_seat(until)
         finally:
             self._end(inbox)
 
+    @property
+    def waiting(self) -> int:
+        """How many wait for a seat."""
+        return len(self._waiting)
+
     def _ask(self, inbox: Inbox) -> None:
         with self._lock:
-            self._waiting.append(inbox)
-            if len(self._waiting) == 1:
-                inbox.give_turn()
+            if self._free:
+                inbox.give_seat(self._free.pop())
+            else:
+                self._waiting.append(inbox)
 
     def _end(self, inbox: Inbox) -> None:
         with self._lock:
-            was_first = self._waiting[0] is inbox
-            self._waiting.remove(inbox)
-            if was_first and self._waiting:
-                self._waiting[0].give_turn()
+            if inbox.seat is None:
+                self._waiting.remove(inbox)
+            elif self._waiting:
+                self._waiting.popleft().give_seat(inbox.seat)
+            else:
+                self._free.append(inbox.seat)
 
 
 class Cancellation:
