@@ -253,6 +253,22 @@ class RetryTest(HostTest):
         text = self.check_recorded(1)[0]
         self.assertIn(b'["RetryIndicated","ThrottlingError",null]', text)
 
+    def test_the_wait_that_a_response_asks_for_is_waited(self):
+        retry = Retry(initial_backoff=0.005, max_backoff=9)
+        milliseconds = wishqoram.RetryAfter("X-Wait", 0.001)
+        for header, asks in [
+            ("retry-after", {"retry_after": "1"}),
+            (milliseconds, {"x_wait": "1000", "retry_after": "9"}),
+        ]:
+            with self.subTest(header):
+                server = self.serve(answer(503, **asks))
+                engine = self.engine(self.client(server, retry=retry, retry_after=header))
+                began = time.monotonic()
+                self.assertEqual(self.asked(engine).attempts, 2)
+                self.assertGreaterEqual(time.monotonic() - began, 1)
+                text = self.recording.files[-1].read_bytes()
+                self.assertIn(b'["RetryIndicated","TransientError",1000000000]', text)
+
     def test_rules_name_errors_by_status_header_and_a_word_of_the_body(self):
         server = self.serve(answer(400, b"<Code>SlowDown</Code>"), answer(200, OK, x_failed="yes"))
         rules = [

@@ -8,7 +8,7 @@
 The engine runs as a child process, `smithy_replay serve`. It does no I/O of its own. This package
 has the connections (urllib3), the clock and the identities.
 """
-from .client import Bucket, Client, ErrorRule, Retry, Sums
+from .client import Bucket, Client, ErrorRule, Retry, RetryAfter, Sums
 from .engine import Engine
 from .errors import (
     BodyError,
@@ -64,6 +64,7 @@ __all__ = [
     "Response",
     "ResponseError",
     "Retry",
+    "RetryAfter",
     "SdkError",
     "SdkTimeoutError",
     "ServiceError",

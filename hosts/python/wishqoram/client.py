@@ -1,6 +1,6 @@
 """What the engine is told of a client. Spans are seconds, tokens are whole or parts of one."""
 from dataclasses import dataclass, field
-from typing import Any, List, Mapping, NamedTuple, Optional, Sequence
+from typing import Any, List, Mapping, NamedTuple, Optional, Sequence, Union
 
 from .clock import nanoseconds, optional_nanoseconds
 from .identities import AuthScheme, IdentityCache
@@ -86,6 +86,19 @@ class ErrorRule:
 
 
 @dataclass(frozen=True)
+class RetryAfter:
+    """A header by which a service says how long to wait before a retry: in decimal digits."""
+
+    header: str
+    """Its name, in letters of any case."""
+    unit: float = 1.0
+    """How many seconds it counts in."""
+
+    def form(self) -> List[Any]:
+        return [self.header, nanoseconds(self.unit)]
+
+
+@dataclass(frozen=True)
 class Client:
     """An operation of a service, and its settings."""
 
@@ -115,6 +128,9 @@ class Client:
     errors: Sequence[ErrorRule] = (ErrorRule(429, "throttle"),)
     """Which responses are errors of a name. A response that meets none of these rules is an error
     without a name from 400 on, and else an output."""
+    retry_after: Union[None, str, RetryAfter] = None
+    """The header whose wait takes the place of a pause, up to `max_backoff`. A name, as
+    `retry-after`, is one that counts in seconds. None waits for no header."""
     prefix: Optional[str] = None
     """A text before the host of the url."""
     auth: Sequence[AuthScheme] = ()
@@ -152,6 +168,12 @@ class Client:
 
     def error_rows(self) -> List[Any]:
         return [rule.form() for rule in self.errors]
+
+    def retry_after_form(self) -> Optional[List[Any]]:
+        header = self.retry_after
+        if isinstance(header, str):
+            header = RetryAfter(header)
+        return None if header is None else header.form()
 
     def _timeouts(self) -> List[Optional[int]]:
         spans = [self.connect_timeout, self.read_timeout]

@@ -17,10 +17,14 @@ def description_of(
     """
     seats: List[Any] = []
     for name, client in clients.items():
-        form = client.form(name, _place(client, buckets))
+        seat = {
+            "client": client.form(name, _place(client, buckets)),
+            "errors": client.error_rows(),
+            "retry_after": client.retry_after_form(),
+        }
         for _ in range(client.seats):
             own = _drawn() if seed is None else seed + len(seats)
-            seats.append({"client": form, "errors": client.error_rows(), "seed": own})
+            seats.append({**seat, "seed": own})
     return {
         "buckets": [bucket.form() for bucket in buckets.values()],
         "start": start,
