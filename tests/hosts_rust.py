@@ -299,6 +299,14 @@ class RetryTest(HostTest):
         text = self.check_recorded(1)[0]
         self.assertIn('["RetryIndicated","ThrottlingError",null]', text)
 
+    def test_a_pause_that_a_header_names_is_waited_for_where_the_client_says_so(self):
+        server = self.serve(answer(429, retry_after="2"))
+        began = time.monotonic()
+        self.assertEqual(self.call(server, retry_after="Retry-After", unit=1)["attempts"], 2)
+        self.assertGreater(time.monotonic() - began, 2)
+        text = self.check_recorded(1)[0]
+        self.assertIn('["RetryIndicated","ThrottlingError",2000000000]', text)
+
     def test_rules_name_errors_by_status_and_a_word_of_the_body(self):
         server = self.serve(answer(400, b"<Code>SlowDown</Code>"), answer(200, b"failed"))
         rules = [[400, "throttle", "SlowDown"], [200, "failed", "failed"]]

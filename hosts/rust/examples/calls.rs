@@ -215,6 +215,9 @@ fn client_of(settings: &Settings) -> Client {
     if let Some(name) = settings.text("bucket_name") {
         client = client.bucket(name);
     }
+    if let Some((name, unit)) = settings.text("retry_after").zip(settings.span("unit")) {
+        client = client.retry_after(name, unit);
+    }
     if settings.says("no_cache") {
         client = client.no_identity_cache();
     }

@@ -189,6 +189,7 @@ pub struct Client {
     stall_grace: Option<Duration>,
     retried_statuses: Vec<u16>,
     errors: Vec<ErrorRule>,
+    retry_after: Option<(String, Duration)>,
     prefix: Option<String>,
     auth: Vec<AuthScheme>,
     identity_cache: Option<IdentityCache>,
@@ -211,6 +212,7 @@ impl Client {
             stall_grace: None,
             retried_statuses: RETRIED_STATUSES.to_vec(),
             errors: vec![ErrorRule::new(429, "throttle")],
+            retry_after: None,
             prefix: None,
             auth: Vec::new(),
             identity_cache: Some(IdentityCache::default()),
@@ -287,6 +289,13 @@ impl Client {
         self
     }
 
+    /// A header whose number says how long a retry waits, in units of this span. A retry waits for
+    /// none without this.
+    pub fn retry_after(mut self, header: impl Into<String>, unit: Duration) -> Client {
+        self.retry_after = Some((header.into(), unit));
+        self
+    }
+
     /// A text before the host of the address.
     pub fn prefix(mut self, prefix: impl Into<String>) -> Client {
         self.prefix = Some(prefix.into());
@@ -342,9 +351,12 @@ impl Client {
     /// The seat of a description, with the place of its bucket and its seed.
     pub(crate) fn seat_form(&self, bucket: Option<usize>, seed: u64) -> Value {
         let errors: Vec<Value> = self.errors.iter().map(ErrorRule::form).collect();
+        let retry_after = self.retry_after.as_ref();
+        let retry_after = retry_after.map(|(name, unit)| json!([name, nanoseconds(*unit)]));
         json!({
             "client": self.form(bucket),
             "errors": errors,
+            "retry_after": retry_after,
             "seed": seed,
         })
     }
