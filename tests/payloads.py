@@ -140,6 +140,10 @@ def inner_rows() -> Iterable[Row]:
         text = printed(SHIPMENT).replace('"numbers":{', f'"numbers":{{"double":{value},')
         outcome = text.replace(f'"double":{value}', f'"double":{kept}')
         yield Row(f"double is {value}", text.encode(), outcome)
+    for value in ("1", "NaN"):
+        numbers = {**NUMBERS, "double": value}
+        wrong = {**SHIPMENT, "numbers": numbers}
+        yield Row(f"double is the text {value}", payload(wrong), "WrongType")
 
 
 def nested(levels: int) -> bytes:
@@ -219,6 +223,9 @@ def moment_rows() -> Iterable[Row]:
     for text in NO_MOMENTS:
         yield declaration_row(f"signed {text!r}", {**DECLARATION, "signed": text}, "Misspelled")
     yield declaration_row("signed 0", {**DECLARATION, "signed": 0}, "WrongType")
+    yield declaration_row("signed null", {**DECLARATION, "signed": None}, "Missing")
+    doubled = b'{"signed":0,' + payload(DECLARATION)[1:]
+    yield Row("signed is doubled", doubled, printed(DECLARATION), "declaration")
 
 
 # ---- errors with members of their own
