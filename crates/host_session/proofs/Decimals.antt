@@ -7,7 +7,7 @@ use Rattle.std.specs.List.{AllByRecursion, list_all}
 use Rattle.std.specs.Str.Parse.{AllDigits, IsNumeral, digits_value, without_leading_plus}
 use Rattle.http_header.specs.FieldValue.{IsVisibleAscii}
 use Rattle.http_header.specs.Token.{is_visible_or_blank}
-use Rattle.host_session.specs.RetryAfter.{decimal_number, is_decimal}
+use Rattle.host_session.specs.RetryAfter.{decimal_number}
 
 both : (a b : Bool) → (a && b) ≡ true → (a ≡ true) × (b ≡ true)
 both true true e = (refl, refl)

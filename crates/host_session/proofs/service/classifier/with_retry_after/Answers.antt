@@ -1,4 +1,3 @@
-use Rattle.std.proofs.Common.{ap, ◌∙◌, ◌+◌, ◌≤◌, length, subst, sym}
 use Rattle.host_session.proofs.Adding.{adds}
 use Rattle.host_session.proofs.service.classifier.with_retry_after.Goals as goal
 
