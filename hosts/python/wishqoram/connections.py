@@ -1,15 +1,16 @@
 """Connections, and requests on the wire.
 
-Each client has a pool of connections of its own (urllib3). A connection goes back to it at the end
-of a body. One that the engine calls poisoned is closed before the next request begins. A request
-that the engine gives up has its connection shut down, whatever it waits for.
+Each seat has a pool of connections of its own (urllib3). A connection goes back to it at the end of
+a body. One that the engine calls poisoned is closed before the seat's next request begins, and no
+other seat can have it. A request that the engine gives up has its connection shut down, whatever it
+waits for.
 """
 import re
 import socket
 import ssl
 import threading
 import weakref
-from typing import Any, Iterable, Iterator, List, NamedTuple, Optional, Tuple
+from typing import Any, Iterable, Iterator, List, NamedTuple, Optional, Sequence, Tuple
 
 import urllib3
 from urllib3 import exceptions
@@ -100,21 +101,17 @@ class Reading(NamedTuple):
 
 
 class Connections:
-    """The connections of a client with so many seats, and the requests on them."""
+    """The connections of a client with these seats, and the requests on them."""
 
-    def __init__(self, ssl_context: Optional[ssl.SSLContext], seats: int):
-        size = max(seats, LEAST_KEPT)
-        self._pools = urllib3.PoolManager(
-            num_pools=LEAST_KEPT, maxsize=size, retries=False, **_tls(ssl_context)
-        )
-        self._pools.pool_classes_by_scheme = {"http": _HTTPPool, "https": _HTTPSPool}
+    def __init__(self, ssl_context: Optional[ssl.SSLContext], seats: Sequence[int]):
+        self._pools = {seat: _pool_manager(ssl_context) for seat in seats}
         self._calls: "weakref.WeakSet[Call]" = weakref.WeakSet()
 
     def begin(
         self, begin: Begin, body: OutgoingBody, vault: Vault, reading: Reading, inbox: Inbox
     ) -> "Call":
         """Sends a request, in a thread of its own."""
-        call = Call(self._pools, begin, body, vault, reading, inbox)
+        call = Call(self._pools[begin.seat], begin, body, vault, reading, inbox)
         self._calls.add(call)
         threading.Thread(target=call.work, name=f"call {begin.call}", daemon=True).start()
         return call
@@ -123,7 +120,15 @@ class Connections:
         """Ends every request, and closes every connection."""
         for call in list(self._calls):
             call.drop()
-        self._pools.clear()
+        for pools in self._pools.values():
+            pools.clear()
+
+
+def _pool_manager(context: Optional[ssl.SSLContext]) -> urllib3.PoolManager:
+    kept = {"num_pools": LEAST_KEPT, "maxsize": LEAST_KEPT}
+    pools = urllib3.PoolManager(retries=False, **kept, **_tls(context))
+    pools.pool_classes_by_scheme = {"http": _HTTPPool, "https": _HTTPSPool}
+    return pools
 
 
 def _tls(context: Optional[ssl.SSLContext]) -> Any:

@@ -71,7 +71,7 @@ class Engine:
         for name, client in clients.items():
             seats = range(first, first + client.seats)
             first += client.seats
-            connections = Connections(ssl_context, client.seats)
+            connections = Connections(ssl_context, seats)
             vault = Vault(secrets == "host")
             open_client = OpenClient(self._program, name, client, seats, vault, connections)
             self._clients[name] = open_client
