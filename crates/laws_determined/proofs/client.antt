@@ -1,3 +1,4 @@
 pub mod Sleeping
 pub mod Answered
 pub mod Served
+pub mod Driven

@@ -3,6 +3,7 @@
 
 ghost use Rattle.retry_quota.specs.declared.permit.Permit.{Permit};
 ghost use Rattle.laws_determined.specs.Client.Answering.{AnswersAreDetermined, with_registers};
+ghost use Rattle.laws_determined.specs.Client.Driving.{DrivesAreDetermined};
 ghost use Rattle.laws_determined.specs.Client.Exchanging.{ExchangesAreDetermined};
 ghost use Rattle.laws_determined.specs.Client.Serving.{RunsAreDetermined};
 
@@ -20,6 +21,13 @@ pub fn answers_are_determined<T: ClientTypes>()
 /// fuel, and their parts are alike afterwards.
 pub fn runs_are_determined<T: ClientTypes>()
     ensures { RunsAreDetermined (λ (p : Permit). p.bucket) (λ (p : Permit). p.amount)
+        ⟦<T as ClientMeans>⟧.means.quota.limiters (with_registers ⟦<T as ClientMeans>⟧.means) }
+{}
+
+/// From one place of a run, where it needn't wait, they are driven on by the same entries, to where
+/// the run has to wait, made all its calls or is whole, and their parts are alike afterwards.
+pub fn drives_are_determined<T: ClientTypes>()
+    ensures { DrivesAreDetermined (λ (p : Permit). p.bucket) (λ (p : Permit). p.amount)
         ⟦<T as ClientMeans>⟧.means.quota.limiters (with_registers ⟦<T as ClientMeans>⟧.means) }
 {}
 

@@ -1,6 +1,7 @@
-//! Outsides whose answers follow from what they were. The function does nothing: its contract is
-//! the law.
+//! Outsides whose answers follow from what they were. The functions do nothing: their contracts are
+//! the laws.
 
+ghost use Rattle.outside_hosted.specs.Makes.{Makes as HostMakes};
 ghost use Rattle.outside_scripted.specs.Makes.{Makes};
 ghost use Rattle.laws_determined.specs.Steady.Steady.{IsSteady};
 
@@ -8,4 +9,9 @@ ghost use Rattle.laws_determined.specs.Steady.Steady.{IsSteady};
 /// is asked, want of memory aside.
 pub fn scripts_are_steady()
     ensures { IsSteady Makes }
+{}
+
+/// So it is of an outside that a host feeds.
+pub fn hosts_are_steady()
+    ensures { IsSteady HostMakes }
 {}

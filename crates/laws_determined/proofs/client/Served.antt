@@ -28,7 +28,7 @@ same_entry e f p q = subst (λ x. e ≡ entry x f.answer) p (subst (λ a. e ≡ 
 begins_front : (stop : StopPoint) (s : State) (a b : List Entry) → Begins stop s (a ++ b) → Begins stop s a
 begins_front stop s a b (n, w) = (b ++ n, subst (λ l. IsWhole stop s l) (append_assoc a b n) w)
 
-abbrev Fronts : List Entry → List Entry → Type 0
+abbrev pub Fronts : List Entry → List Entry → Type 0
 Fronts l m = ((n : List Entry) × (m ≡ l ++ n)) ⊎ ((n : List Entry) × (l ≡ m ++ n))
 
 fronts_more : (e f : Entry) (l m : List Entry) → e ≡ f → Fronts l m → Fronts (e ∷ l) (f ∷ m)
@@ -40,7 +40,7 @@ front_nil [] b e = refl
 front_nil (x ∷ a) b e = absurd (cc e)
 
 module _ (stop : StopPoint) (s : State) where
-  no_more : (l n : List Entry) → IsWhole stop s l → Begins stop s (l ++ n) → n ≡ []
+  pub no_more : (l n : List Entry) → IsWhole stop s l → Begins stop s (l ++ n) → n ≡ []
   no_more l n w (k, v) = front_nil n k (no_prefix_law stop s l (n ++ k) w (subst (IsWhole stop s) (append_assoc l n k) v))
 
   begins_within : (fuel : ℕ) (l : List Entry) → IsRunWithin stop s fuel l → Begins stop s l
@@ -77,13 +77,13 @@ module _ {T X C I A R Z D P L : Type 0} (bucket amount : P → ℕ) (limiters : 
   Serves old l new = Served (over_registers bucket amount limiters means) old l new
 
   -- the same list leaves parts that are alike
-  left_alike : (l : List Entry) (old other new more : Client) → PartsAlike bucket amount old other → Serves old l new → Serves other l more → PartsAlike bucket amount new more
+  pub left_alike : (l : List Entry) (old other new more : Client) → PartsAlike bucket amount old other → Serves old l new → Serves other l more → PartsAlike bucket amount new more
   left_alike [] old other new more alike s t = subst (λ x. PartsAlike bucket amount x more) (sym s) (subst (λ x. PartsAlike bucket amount old x) (sym t) alike)
   left_alike (e ∷ l) old other new more alike (mid, this, rest) (away, that, later) =
       left_alike l mid away new more (answer_once bucket amount limiters means plain e.question old other mid away e.answer e.answer alike this that).1 rest later
 
   module _ (stop : StopPoint) (s : State) where
-    fronts : (k l m : List Entry) (old other new more : Client) → PartsAlike bucket amount old other → Begins stop s (k ++ l) → Begins stop s (k ++ m) → Serves old l new → Serves other m more → Fronts l m
+    pub fronts : (k l m : List Entry) (old other new more : Client) → PartsAlike bucket amount old other → Begins stop s (k ++ l) → Begins stop s (k ++ m) → Serves old l new → Serves other m more → Fronts l m
     fronts k [] m old other new more alike b c u v = inl (m, refl)
     fronts k (e ∷ l) [] old other new more alike b c u v = inr (e ∷ l, refl)
     fronts k (e ∷ l) (f ∷ m) old other new more alike b c (mid, this, rest) (away, that, later) =
