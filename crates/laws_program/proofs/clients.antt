@@ -1,3 +1,4 @@
+pub mod Each
 pub mod Prioritized
 pub mod Resting
 pub mod Invoked

@@ -3,3 +3,4 @@ pub mod Runs
 pub mod Clients
 pub mod Scripts
 pub mod Made
+pub mod Hosts

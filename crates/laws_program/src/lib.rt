@@ -4,6 +4,7 @@
 
 pub mod client_scripts;
 pub mod clients;
+pub mod hosts;
 pub mod made;
 pub mod paid;
 pub mod runs;

@@ -27,9 +27,10 @@ use Rattle.smithy_types.specs.declared.partition.RetryPartition.{RetryPartition}
 use Rattle.laws_determined.specs.Auth.Alike.{LoadIsTimed}
 use Rattle.laws_determined.specs.Retries.Alike.{AreAlike, HoldAlike}
 use Rattle.json_print.proofs.determined.Endings.{same_some}
+use Rattle.laws_program.proofs.clients.Each.{EachAlike}
 use Rattle.laws_program.proofs.clients.Invoked.{ClientsAlike, pays, pays_from}
 use Rattle.laws_program.proofs.clients.Prioritized.{one_priority}
-use Rattle.laws_program.proofs.clients.Ran.{EachAlike, SetsAlike}
+use Rattle.laws_program.proofs.clients.Ran.{SetsAlike}
 use Rattle.laws_program.proofs.clients.Resting.{RestAlike}
 
 -- ---- a client's partition
@@ -43,7 +44,7 @@ same_partition one two a b = λ i. record { name = a i; custom = b i }
 same_registers : (one two : Registers Pace) → one.books ≡ two.books → one.limiters ≡ two.limiters → one.bucket_names ≡ two.bucket_names → one.limiter_names ≡ two.limiter_names → one ≡ two
 same_registers one two a b c d = λ i. record { books = a i; limiters = b i; bucket_names = c i; limiter_names = d i }
 
-one_partition : (service : List ℕ) (bucket : Option ℕ) (old : Registers Pace) (one two : Option RetryPartition) (new more : Registers Pace) → PartitionOf service bucket old one new → PartitionOf service bucket old two more
+pub one_partition : (service : List ℕ) (bucket : Option ℕ) (old : Registers Pace) (one two : Option RetryPartition) (new more : Registers Pace) → PartitionOf service bucket old one new → PartitionOf service bucket old two more
     → (one ≡ two) × (new ≡ more)
 one_partition service None old one two new more s t = (s.0 ∙ sym t.0, s.1 ∙ sym t.1)
 one_partition service (Some bucket) old None two new more s t = absurd s
@@ -56,16 +57,16 @@ one_partition service (Some bucket) old (Some one) (Some two) new more (name, nu
 
 -- ---- a client's parts
 
-holds_itself : (strategy : RetryStrategy Permit) → HoldAlike pays_from pays strategy strategy
+pub holds_itself : (strategy : RetryStrategy Permit) → HoldAlike pays_from pays strategy strategy
 holds_itself (Never strategy) = tt
 holds_itself (Standard strategy) = refl
 
 -- a cache has no load at first
-opens_timed : (cache : SharedIdentityCache) → LoadIsTimed (cached_by cache)
+pub opens_timed : (cache : SharedIdentityCache) → LoadIsTimed (cached_by cache)
 opens_timed NoCache = tt
 opens_timed (Lazy terms) = tt
 
-registers_alike : (one two : Registers Pace) → one ≡ two → AreAlike one two
+pub registers_alike : (one two : Registers Pace) → one ≡ two → AreAlike one two
 registers_alike one two same = record {
   books = ap (λ (r : Registers Pace). r.books) same;
   limiters = ap (λ (r : Registers Pace). r.limiters) same;
@@ -127,7 +128,7 @@ module _ {V W : Type 0} {v : V → Type 0} {w : W → Type 0} where
     -- ---- all clients
 
     each_alike : (ones twos : List (Pair V W v w)) (old new more : Registers Pace) → map (λ (d : Pair V W v w). d.object) ones ≡ map (λ (d : Pair V W v w). d.object) twos → Chained (BuildsOne ranked) old ones new → Chained (BuildsOne ranked) old twos more
-        → EachAlike (map (λ (d : Pair V W v w). d.client) ones) (map (λ (d : Pair V W v w). d.client) twos) × (new ≡ more)
+        → EachAlike ClientsAlike (map (λ (d : Pair V W v w). d.client) ones) (map (λ (d : Pair V W v w). d.client) twos) × (new ≡ more)
     each_alike [] [] old new more same s t = (tt, s ∙ sym t)
     each_alike [] (e ∷ es) old new more same s t = absurd (cc same)
     each_alike (d ∷ ds) [] old new more same s t = absurd (cc same)
@@ -145,6 +146,6 @@ module _ {V W : Type 0} {v : V → Type 0} {w : W → Type 0} where
         record {
           outside = s.outside ∙ sym t.outside;
           quota = registers_alike one.quota two.quota met.1;
-          clients = subst (λ l. EachAlike l two.clients.items) (sym s.clients.clients_are)
-              (subst (λ l. EachAlike (map (λ (d : Pair V W v w). d.client) s.clients.described) l) (sym t.clients.clients_are) met.0);
+          clients = subst (λ l. EachAlike ClientsAlike l two.clients.items) (sym s.clients.clients_are)
+              (subst (λ l. EachAlike ClientsAlike (map (λ (d : Pair V W v w). d.client) s.clients.described) l) (sym t.clients.clients_are) met.0);
         }

@@ -1,7 +1,7 @@
 -- The invocations of a script's clients are determined.
-use Rattle.std.proofs.Common.{◌≡◌, ◌∙◌, refl, sym, subst, ℕ, zero, suc, ◌+◌, List, [], ◌∷◌, map, Some}
+use Rattle.std.proofs.Common.{◌≡◌, ◌∙◌, refl, sym, subst, ◌+◌, List, [], ◌∷◌, map}
 use Rattle.std.proofs.lemmas.List.Sums.{sum_by-cons}
-use Rattle.std.specs.Prelude.{slice_get, slice_set}
+use Rattle.std.specs.Prelude.{slice_set}
 use Rattle.client_auth.specs.Identities.{loads_of}
 use Rattle.cli_client_runs.specs.Means.{ServedBy}
 use Rattle.cli_client_runs.specs.Running.{InvokedIn, Ran, Runs, loads_in}
@@ -16,7 +16,7 @@ use Rattle.smithy_types.specs.Chain.{Chained}
 use Rattle.smithy_types.specs.declared.notes.RetryAction.{RetryAction}
 use Rattle.laws_determined.specs.Retries.Alike.{AreAlike}
 use Rattle.laws_determined.specs.Retries.Kinds.{RunsAlike}
-use Rattle.json_print.proofs.determined.Endings.{same_some}
+use Rattle.laws_program.proofs.clients.Each.{EachAlike, found_alike, set_alike}
 use Rattle.laws_program.proofs.clients.Invoked.{ClientsAlike, invoked_once}
 
 abbrev pub asked : Ran → InvocationRecord
@@ -26,29 +26,8 @@ same_ran : (r q : Ran) → r.invocation ≡ q.invocation → r.log ≡ q.log →
 same_ran r q a b c = λ i. record { invocation = a i; log = b i; ending = c i }
 
 module _ {C I : Type 0} where
-  -- ---- as many clients, each alike
-
-  abbrev pub EachAlike : List (ScriptedClient C I) → List (ScriptedClient C I) → Type 0
-  EachAlike [] [] = Unit {0}
-  EachAlike [] (two ∷ twos) = ⊥
-  EachAlike (one ∷ ones) [] = ⊥
-  EachAlike (one ∷ ones) (two ∷ twos) = ClientsAlike one two × EachAlike ones twos
-
-  alike_at : (ones twos : List (ScriptedClient C I)) (place : ℕ) (one two : ScriptedClient C I) → EachAlike ones twos → slice_get ones place ≡ Some one → slice_get twos place ≡ Some two → ClientsAlike one two
-  alike_at [] twos place one two alike s t = absurd (cc s)
-  alike_at (x ∷ xs) [] place one two alike s t = absurd alike
-  alike_at (x ∷ xs) (y ∷ ys) zero one two alike s t = subst (λ c. ClientsAlike c two) (same_some x one s) (subst (λ c. ClientsAlike x c) (same_some y two t) alike.0)
-  alike_at (x ∷ xs) (y ∷ ys) (suc place) one two alike s t = alike_at xs ys place one two alike.1 s t
-
-  set_alike : (ones twos : List (ScriptedClient C I)) (place : ℕ) (one two : ScriptedClient C I) → EachAlike ones twos → ClientsAlike one two → EachAlike (slice_set ones place one) (slice_set twos place two)
-  set_alike [] [] place one two alike new = tt
-  set_alike [] (y ∷ ys) place one two alike new = absurd alike
-  set_alike (x ∷ xs) [] place one two alike new = absurd alike
-  set_alike (x ∷ xs) (y ∷ ys) zero one two alike new = (new, alike.1)
-  set_alike (x ∷ xs) (y ∷ ys) (suc place) one two alike new = (alike.0, set_alike xs ys place one two alike.1 new)
-
-  -- so as many loads were begun
-  pub loads_alike : (ones twos : List (ScriptedClient C I)) → EachAlike ones twos → loads_in ones ≡ loads_in twos
+  -- of clients that are each alike as many loads were begun
+  pub loads_alike : (ones twos : List (ScriptedClient C I)) → EachAlike ClientsAlike ones twos → loads_in ones ≡ loads_in twos
   loads_alike [] [] alike = refl
   loads_alike [] (y ∷ ys) alike = absurd alike
   loads_alike (x ∷ xs) [] alike = absurd alike
@@ -60,7 +39,7 @@ module _ {C I : Type 0} where
   pub record SetsAlike (one two : ClientSet C I) : Type 0 where
     pub outside : one.outside ≡ two.outside
     pub quota : AreAlike one.quota two.quota
-    pub clients : EachAlike one.clients.items two.clients.items
+    pub clients : EachAlike ClientsAlike one.clients.items two.clients.items
 
   -- ---- one of them is invoked
 
@@ -74,16 +53,16 @@ module _ {C I : Type 0} where
         → InvokedIn (ServedBy says chain) old i log ending new → InvokedIn (ServedBy says chain) two i other last more → OneIn log other ending last new more
     invoked_in i old two new more log other ending last alike s t =
         let met = invoked_once says chain runs i s.client t.client s.after t.after old.outside two.outside new.outside more.outside old.quota two.quota new.quota more.quota log other ending last
-        (alike_at old.clients.items two.clients.items i.client s.client t.client alike.clients s.there t.there) alike.outside alike.quota s.invoked t.invoked in
+        (found_alike ClientsAlike old.clients.items two.clients.items i.client s.client t.client alike.clients s.there t.there) alike.outside alike.quota s.invoked t.invoked in
         record {
           log_is = met.log_is;
           ending_is = met.ending_is;
           sets = record {
             outside = met.outside;
             quota = met.quota;
-            clients = subst (λ l. EachAlike l more.clients.items) (sym s.clients)
-                (subst (λ l. EachAlike (slice_set old.clients.items i.client s.after) l) (sym t.clients)
-                (set_alike old.clients.items two.clients.items i.client s.after t.after alike.clients met.clients));
+            clients = subst (λ l. EachAlike ClientsAlike l more.clients.items) (sym s.clients)
+                (subst (λ l. EachAlike ClientsAlike (slice_set old.clients.items i.client s.after) l) (sym t.clients)
+                (set_alike ClientsAlike old.clients.items two.clients.items i.client s.after t.after alike.clients met.clients));
           };
         }
 

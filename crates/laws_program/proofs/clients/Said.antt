@@ -22,7 +22,7 @@ use Rattle.laws_program.proofs.clients.Told.{OneTelling, counts_once, plays_once
 
 -- ---- the interceptors are those of the crate
 
-slot_alike : {W : Type 0} {w : W → Type 0} → RunsAlike (SlotRuns {W = W} {w = w})
+pub slot_alike : {W : Type 0} {w : W → Type 0} → RunsAlike (SlotRuns {W = W} {w = w})
 slot_alike (slots.Own one) after left hook view a b (new, is, ran) (more, too, again) = let met = own_alike one new more hook view a b ran again in (met.0, is ∙ (ap slots.Own met.1 ∙ sym too))
 slot_alike (slots.Boxed box) after left hook view a b s t = absurd s
 

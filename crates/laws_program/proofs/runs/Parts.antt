@@ -46,7 +46,7 @@ own_alike (EnforceContentLength one) after left hook view a b s t = (s.1 ∙ sym
 
 -- ---- resolvers
 
-polls_alike : (one after left : IdentityResolver NoAuthIdentityResolver) (a b : IdentityPoll) → resolver_polls one a after → resolver_polls one b left → (a ≡ b) × (after ≡ left)
+pub polls_alike : (one after left : IdentityResolver NoAuthIdentityResolver) (a b : IdentityPoll) → resolver_polls one a after → resolver_polls one b left → (a ≡ b) × (after ≡ left)
 polls_alike (resolvers.NoAuth nobody) after left a b s t = (s.0 ∙ sym t.0, s.1 ∙ sym t.1)
 polls_alike (resolvers.Brought resolver) after left a b s t = (s.2.0 ∙ sym t.2.0, s.1 ∙ (ap resolvers.Brought (s.2.1 ∙ sym t.2.1) ∙ sym t.1))
 
@@ -87,7 +87,7 @@ service_alike (services.Header id) request identity a b s t = header_alike (code
 service_alike (services.Bearer scheme) request identity a b s t = header_alike (codes "authorization") (codes "Bearer " ++ identity.content) request a b s t
 service_alike (services.ApiKey scheme) request identity a b s t = key_alike scheme.location scheme.name scheme.prefix identity.content request a b s t
 
-signs_alike : (scheme : Scheme ServiceScheme) (request : HttpRequest) (identity : Identity) (endpoint : Endpoint) (a b : Signed) → scheme_signs scheme request identity endpoint a → scheme_signs scheme request identity endpoint b → a ≡ b
+pub signs_alike : (scheme : Scheme ServiceScheme) (request : HttpRequest) (identity : Identity) (endpoint : Endpoint) (a b : Signed) → scheme_signs scheme request identity endpoint a → scheme_signs scheme request identity endpoint b → a ≡ b
 signs_alike (schemes.NoAuth scheme) request identity endpoint a b s t = s ∙ sym t
 signs_alike (schemes.Brought scheme) request identity endpoint a b s t = service_alike scheme request identity a b s t
 

@@ -1,0 +1,11 @@
+pub mod Parts
+pub mod Worlds
+pub mod Running
+pub mod Seats
+pub mod Cuts
+pub mod Spoken
+pub mod Written
+pub mod Sessions
+pub mod Opened
+pub mod Heard
+pub mod Conversed
