@@ -11,7 +11,8 @@ pub mod refusals;
 pub mod schema_command;
 pub mod word_list;
 
-pub use keeping::KeepingReader;
+pub use inputs::kept_of;
+pub use keeping::{KeepingReader, Kept};
 pub use left_over::{left_over_line, missed_line};
 pub use refusals::{Call, refusal_line};
 pub use schema_command::{print_schema, schema_kind};

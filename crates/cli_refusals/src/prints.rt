@@ -49,7 +49,7 @@ fn push_expected(alloc: Global, line: &mut String, found: &[u8]) -> Result<(), O
     let Ok(text) = str::from_utf8(found) else {
         return Ok(());
     };
-    if let Some(flaw) = first_flaw(alloc, text)? {
+    if let Some(flaw) = first_flaw(alloc, text, "a JSON array")? {
         let column = column_of(found, flaw.offset);
         let expected = flaw.expected;
         line.push_str(format!(in alloc; ": column {column}: expected {expected}")?.as_str())?;

@@ -1,6 +1,6 @@
 //! What is kept while a script is walked: where the walk is, and what is wrong there.
 
-use crate::shape::ScriptKind;
+use crate::shape::{ScriptKind, TextKind};
 use indexmap::IndexSet;
 use json::Value;
 use smithy_types::OutOfMemory;
@@ -42,8 +42,8 @@ pub struct Finder {
 }
 
 impl Finder {
-    /// A walk that begins at a script.
-    pub fn new(alloc: Global, kind: ScriptKind, script: &Value, judges_limits: bool) -> Finder {
+    /// A walk that begins at a script, or at a line of a host.
+    pub fn new(alloc: Global, kind: TextKind, script: &Value, judges_limits: bool) -> Finder {
         Finder {
             alloc,
             judges_limits,
@@ -111,9 +111,9 @@ impl Finder {
 }
 
 // A script of clients has a list of buckets, and one of callers has one bucket.
-fn buckets_of(kind: ScriptKind, script: &Value) -> u64 {
+fn buckets_of(kind: TextKind, script: &Value) -> u64 {
     match kind {
-        ScriptKind::Fleet => 1,
+        TextKind::Script(ScriptKind::Fleet) => 1,
         _ => count_of(script.get("buckets")),
     }
 }

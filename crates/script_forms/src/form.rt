@@ -1,6 +1,6 @@
 //! The names of all forms.
 
-/// A form of a value in a script. What it is stands in `tables`.
+/// A form of a value in a script, or in a line of a host. What it is stands in `tables`.
 #[derive(Clone, Copy)]
 pub enum Form {
     // Plain values.
@@ -163,6 +163,34 @@ pub enum Form {
     CallerInvocations,
     Caller,
     Callers,
+    // What a host says.
+    Seat,
+    Moment,
+    CallNumber,
+    ResponseEvent,
+    DataEvent,
+    TrailersEvent,
+    EndEvent,
+    BrokenEvent,
+    FailedEvent,
+    IdentityEvent,
+    NoIdentityEvent,
+    Event,
+    Events,
+    InvokeMessage,
+    AtMessage,
+    GiveUpMessage,
+    SumsMessage,
+    CloseMessage,
+    Message,
+    // What a host begins with.
+    RuleHeaders,
+    OptionalBlob,
+    ErrorRule,
+    ErrorRules,
+    HostClient,
+    HostClients,
+    Description,
     // Scripts of waiters.
     Span,
     MinimumDelay,

@@ -1,5 +1,5 @@
-//! The forms of the scripts that commands read, as tables; where a script isn't of its form, and
-//! what is wanted there; and the JSON Schema of a command's scripts.
+//! The forms of the scripts that commands read and of the lines that a host says, as tables; where
+//! one isn't of its form, and what is wanted there; and the JSON Schema of a command's scripts.
 #![tactic(auto)]
 
 pub mod explaining;
@@ -18,7 +18,7 @@ pub mod syntax;
 pub mod tables;
 pub mod walk;
 
-pub use explaining::{Cause, explain};
+pub use explaining::{Cause, explain, refusal_of_line};
 pub use names::nearest;
 pub use schemas::write_schema;
-pub use shape::ScriptKind;
+pub use shape::{ScriptKind, TextKind};

@@ -75,8 +75,13 @@ fn step_into(reader: &mut Reader<'_>, place: usize) -> usize {
     name
 }
 
-/// The path in words: `clients[0].retry[1]`, and "the script" for the whole.
-pub fn path_text(alloc: Global, script: &Value, path: &[usize]) -> Result<String, OutOfMemory> {
+/// The path in words: `clients[0].retry[1]`, and a word for the whole, as "the script".
+pub fn path_text(
+    alloc: Global,
+    script: &Value,
+    path: &[usize],
+    whole: &str,
+) -> Result<String, OutOfMemory> {
     let mut text = String::new(alloc);
     let mut value = script;
     for place in path {
@@ -84,7 +89,7 @@ pub fn path_text(alloc: Global, script: &Value, path: &[usize]) -> Result<String
         value = child_at(value, *place);
     }
     if text.is_empty() {
-        text.push_str("the script")?;
+        text.push_str(whole)?;
     }
     Ok(text)
 }

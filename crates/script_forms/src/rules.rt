@@ -16,6 +16,7 @@ pub fn rules_hold(finder: &mut Finder, value: &Value, form: Form) -> Result<bool
         Form::TaggedHook => hook_does_something(finder, value),
         Form::Layer => keys_stand_once(finder, value),
         Form::ApiKey => query_has_no_prefix(finder, value),
+        Form::HostClient => length_is_free(finder, value),
         _ => Ok(true),
     }
 }
@@ -174,6 +175,21 @@ fn query_has_no_prefix(finder: &mut Finder, value: &Value) -> Result<bool, OutOf
         (Some(Value::String(location)), Some(Value::String(_))) if *location == "Query" => {
             finder.enter(3)?;
             finder.expect("null, since in the query nothing stands before the key")
+        }
+        _ => Ok(true),
+    }
+}
+
+// A host's client doesn't hold a response's length to its header.
+fn length_is_free(finder: &mut Finder, value: &Value) -> Result<bool, OutOfMemory> {
+    let Some(client) = value.get("client") else {
+        return Ok(true);
+    };
+    match client.get("enforce") {
+        Some(Value::Bool(true)) => {
+            finder.enter(last_place(value, "client"))?;
+            finder.enter(last_place(client, "enforce"))?;
+            finder.expect("false, since of a long body a part stays with the host")
         }
         _ => Ok(true),
     }

@@ -41,6 +41,45 @@ impl ScriptKind {
     }
 }
 
+/// What a text is to be.
+#[derive(Clone, Copy)]
+pub enum TextKind {
+    /// The script of a command.
+    Script(ScriptKind),
+    /// What a host begins with, its first line.
+    Description,
+    /// A further line of a host.
+    Message,
+}
+
+impl TextKind {
+    /// The form of the whole text.
+    pub fn form(self) -> Form {
+        match self {
+            TextKind::Script(kind) => kind.form(),
+            TextKind::Description => Form::Description,
+            TextKind::Message => Form::Message,
+        }
+    }
+
+    /// What kind of JSON it is.
+    pub fn json_kind(self) -> &'static str {
+        match self {
+            TextKind::Message => "a JSON array",
+            _ => "a JSON object",
+        }
+    }
+
+    /// The whole text, as it stands in the place of a path.
+    pub fn whole(self) -> &'static str {
+        match self {
+            TextKind::Script(_) => "the script",
+            TextKind::Description => "the description",
+            TextKind::Message => "the line",
+        }
+    }
+}
+
 /// A member of an object.
 #[derive(Clone, Copy)]
 pub struct Member {

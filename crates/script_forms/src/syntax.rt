@@ -17,6 +17,8 @@ pub struct Flaw {
 // What of a text was read.
 #[derive(Drop)]
 struct Reading {
+    // What the text is to be.
+    whole: &'static str,
     // The arrays and objects that are open: whether each is an object.
     open: Vec<bool>,
     // Whether a member's name stands before.
@@ -25,11 +27,17 @@ struct Reading {
     is_done: bool,
 }
 
-/// The first place where the text isn't JSON, where there is one.
-pub fn first_flaw(alloc: Global, text: &str) -> Result<Option<Flaw>, OutOfMemory> {
+/// The first place where the text isn't JSON, where there is one. Before its first value the whole
+/// is expected, as "a JSON object".
+pub fn first_flaw(
+    alloc: Global,
+    text: &str,
+    whole: &'static str,
+) -> Result<Option<Flaw>, OutOfMemory> {
     let mut scratch = Scratch::new(alloc);
     let mut reader = Reader::new(text, &mut scratch)?;
     let mut reading = Reading {
+        whole,
         open: Vec::new(alloc),
         is_named: false,
         is_done: false,
@@ -149,7 +157,7 @@ fn last_byte(text: &[u8], offset: usize) -> Option<u8> {
 fn expected_behind(last: Option<u8>, reading: &Reading) -> &'static str {
     let is_in_object = reading.is_in_object();
     match last {
-        None => "a JSON object",
+        None => reading.whole,
         Some(b'{') => "a member's name in quotes and `:`, or `}`",
         Some(b'[') => "a value or `]`",
         Some(b',') if is_in_object && !reading.is_named => "a member's name in quotes and `:`",

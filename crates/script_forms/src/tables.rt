@@ -2,6 +2,7 @@
 
 pub mod answers;
 pub mod clients;
+pub mod hosts;
 pub mod scripts;
 pub mod settings;
 pub mod values;
@@ -43,6 +44,14 @@ fn above_answers(form: Form) -> Table {
 
 // Of forms that aren't clients or callers either.
 fn above_clients(form: Form) -> Table {
+    match listed(hosts::TABLES, Form::Seat, form) {
+        Some(table) => table,
+        None => above_hosts(form),
+    }
+}
+
+// Of forms that aren't of a host's lines either.
+fn above_hosts(form: Form) -> Table {
     match listed(scripts::TABLES, Form::Span, form) {
         Some(table) => table,
         None => scripts::WAITERS_SCRIPT,

@@ -4,7 +4,8 @@
 
 use cli_commands::program::program;
 use cli_refusals::{
-    Call, KeepingReader, left_over_line, missed_line, print_schema, refusal_line, schema_kind,
+    Call, KeepingReader, kept_of, left_over_line, missed_line, print_schema, refusal_line,
+    schema_kind,
 };
 use cli_replay::left_over::LeftOver;
 use cli_shell::status::Status;
@@ -21,7 +22,8 @@ fn main(rt: HostRuntime) -> ExitCode {
                 status
             }
             None => {
-                let reader = KeepingReader::new(rt.alloc(), rt.stdin());
+                let kept = kept_of(first_word(words.as_slice()));
+                let reader = KeepingReader::new(rt.alloc(), rt.stdin(), kept);
                 let finished = program(&rt, rt.alloc(), words.as_slice(), reader, rt.stdout());
                 tell(
                     &rt,

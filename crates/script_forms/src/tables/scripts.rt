@@ -84,14 +84,6 @@ pub const WAITERS_SCRIPT: Table = Table {
     shape: Shape::Object(WAITERS),
 };
 
-fn of(name: &'static str, wanted: &'static str, shape: Shape) -> Table {
-    Table {
-        name,
-        wanted,
-        shape,
-    }
-}
-
 const REPLAY: &[Member] = &[
     Member {
         name: "fuel",
