@@ -232,7 +232,9 @@ class ServingTest(ProgramTest):
     def test_a_line_of_16_mib_is_read_and_a_longer_one_is_not(self):
         if not is_proved():
             self.skipTest("a program without proofs takes half a minute for it")
-        for size, wanted in [(2**24, (0, '["refused","no message"]')), (2**24 + 1, (TOO_LARGE, ""))]:
+        place = "column 1: not JSON: expected a JSON array, found " + "x" * 60 + ".."
+        refused = f'["refused","no message: {place}"]'
+        for size, wanted in [(2**24, (0, refused)), (2**24 + 1, (TOO_LARGE, ""))]:
             with self.subTest(size):
                 ran = run("serve", text=f"{text_of(DESCRIPTION)}\n{'x' * size}\n")
                 told_of = "".join(ran.output.splitlines()[1:])

@@ -23,6 +23,7 @@ use Rattle.json_host.specs.declared.message.HostMessage.{HostMessage}
 use Rattle.json_host.specs.declared.message.SeatMessage.{SeatMessage}
 use Rattle.json_print.specs.Print.{ending_data}
 use Rattle.json_print.specs.declared.ending.Ending.{Ending}
+use Rattle.script_forms.specs.Refusal.{TellsNoMessage}
 use Rattle.host_session.specs.declared.seat.Seat.{Seat}
 use Rattle.host_session.specs.declared.seat.SeatRun.{SeatRun}
 use Rattle.host_session.specs.declared.seat.SeatTerms.{SeatTerms}
@@ -30,18 +31,22 @@ use Rattle.host_session.specs.declared.session.Fed.{Fed}
 use Rattle.host_session.specs.declared.session.Fed.TheVariants.{Open}
 use Rattle.host_session.specs.declared.session.Session.{Session}
 use Rattle.host_session.specs.declared.why.Why.{Why}
-use Rattle.host_session.specs.declared.why.Why.TheVariants.{NoMessage, NoSeat}
+use Rattle.host_session.specs.declared.why.Why.TheVariants.{NoSeat}
 use Rattle.host_session.specs.Ending.{EndsBy, done_data, given_up_data, log_text}
-use Rattle.host_session.specs.Feeding.{Feeds, Meets, MeetsBy, Refuses, TakesAt, lent}
+use Rattle.host_session.specs.Feeding.{Feeds, Meets, MeetsBy, Refuses, RefusesLine, TakesAt, lent}
 use Rattle.host_session.specs.Meaning.{HostedMeaning}
-use Rattle.host_session.specs.Refusing.{refusal_at, refusal_by, why_text}
+use Rattle.host_session.specs.Refusing.{TellsWhy, refusal_at, refusal_by, why_text}
 use Rattle.host_session.specs.Running.{Starts, calls_of, head_of}
 use Rattle.host_session.specs.Seats.{Begins, Closes, Drives, GivesAnyUp, GoesOn, GoesOnAs, Rests, Takes, Waits, feeding}
 
 some_none : (reason : Why) → Some reason ≡ None → ⊥
 some_none reason e = absurd (cc e)
 
--- a line that is refused
+-- the line of a refusal, and what it tells
+pub tells_why : (why before text : List ℕ) → TellsNoMessage why → text ≡ before ++ line (refused_data why) → TellsWhy before text
+tells_why why before text tells is = record { why = why; tells = tells; text_is = is }
+
+-- a message that is refused
 pub refuses : {W : Type 0} (reason : Why) (old : Session W) (before text : List ℕ) (come : Fed) → text ≡ before ++ line (refused_data (why_text reason)) → come ≡ Open → Refuses reason old before old text come
 refuses reason old before text come told stays = record { same = refl; text_is = told; stays = stays }
 
@@ -96,9 +101,9 @@ module _ {W : Type 0} (means : HostedMeaning W) where
   feeds_message bytes m old new before text come is met = inl (m, is, met)
 
   pub feeds_none : (bytes : List ℕ) (old : Session W) (before text : List ℕ) (come : Fed) →
-      ((m : HostMessage) → IsMessage bytes m → ⊥) → text ≡ before ++ line (refused_data (why_text NoMessage)) → come ≡ Open →
+      ((m : HostMessage) → IsMessage bytes m → ⊥) → TellsWhy before text → come ≡ Open →
       Feeds means bytes old before old text come
-  feeds_none bytes old before text come none told stays = inr (none, refuses NoMessage old before text come told stays)
+  feeds_none bytes old before text come none told stays = inr (none, record { same = refl; told = told; stays = stays })
 
   pub goes_on_some : (found : Option SeatRun) (run : SeatRun) (old : W) (terms : SeatTerms) (new : Seat W) (before text : List ℕ) →
       found ≡ Some run → GoesOnAs means run old terms before new text → GoesOn means found old terms before new text

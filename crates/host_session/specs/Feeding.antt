@@ -14,12 +14,18 @@ use Rattle.host_session.specs.declared.session.Fed.{Fed}
 use Rattle.host_session.specs.declared.session.Fed.TheVariants.{Open, Closed}
 use Rattle.host_session.specs.declared.session.Session.{Session}
 use Rattle.host_session.specs.declared.why.Why.{Why}
-use Rattle.host_session.specs.declared.why.Why.TheVariants.{NoMessage}
 use Rattle.host_session.specs.Meaning.{HostedMeaning}
-use Rattle.host_session.specs.Refusing.{refusal_at, why_text}
+use Rattle.host_session.specs.Refusing.{TellsWhy, refusal_at, why_text}
 use Rattle.host_session.specs.Seats.{Takes}
 
--- A line that is refused changes nothing, and the host is told why.
+-- A line that is no message changes nothing, and the host is told where and why.
+pub record RefusesLine {W : Type 0} (old : Session W) (before : List ℕ) (new : Session W) (text : List ℕ) (come : Fed)
+    : Type 0 where
+  pub same : new ≡ old
+  pub told : TellsWhy before text
+  pub stays : come ≡ Open
+
+-- A message that is refused changes nothing, and the host is told why.
 pub record Refuses {W : Type 0} (reason : Why) (old : Session W) (before : List ℕ) (new : Session W) (text : List ℕ)
     (come : Fed) : Type 0 where
   pub same : new ≡ old
@@ -59,4 +65,4 @@ module _ {W : Type 0} (means : HostedMeaning W) where
   abbrev pub Feeds : List ℕ → Session W → List ℕ → Session W → List ℕ → Fed → Type 0
   Feeds bytes old before new text come =
       ((m : HostMessage) × IsMessage bytes m × Meets m old before new text come)
-      ⊎ (((m : HostMessage) → IsMessage bytes m → ⊥) × Refuses NoMessage old before new text come)
+      ⊎ (((m : HostMessage) → IsMessage bytes m → ⊥) × RefusesLine old before new text come)

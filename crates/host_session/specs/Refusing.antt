@@ -1,14 +1,22 @@
 -- Why a line is refused.
-use Rattle.std.specs.Prelude.{ℕ, Bool, is_some, if◌then◌else◌, List, slice_get, Option, Some, None, codes}
+use Rattle.std.specs.Prelude.{◌++◌, ◌≡◌, ℕ, Bool, is_some, if◌then◌else◌, List, slice_get, Option, Some, None, codes}
+use Rattle.json_forms.specs.Lines.{line}
+use Rattle.json_host.specs.Replies.{refused_data}
 use Rattle.json_host.specs.declared.message.SeatMessage.{SeatMessage}
 use Rattle.json_host.specs.declared.message.SeatMessage.TheVariants as message
+use Rattle.script_forms.specs.Refusal.{TellsNoMessage}
 use Rattle.host_session.specs.declared.seat.Seat.{Seat}
 use Rattle.host_session.specs.declared.why.Why.{Why}
 use Rattle.host_session.specs.declared.why.Why.TheVariants as why
 
--- what the host is told
+-- Behind this text stands the line that tells the host that its line is no message, and where and why.
+pub record TellsWhy (before text : List ℕ) : Type 0 where
+  pub why : List ℕ
+  pub tells : TellsNoMessage why
+  pub text_is : text ≡ before ++ line (refused_data why)
+
+-- what the host of a message is told
 abbrev pub why_text : Why → List ℕ
-why_text why.NoMessage = codes "no message"
 why_text why.NoSeat = codes "no seat"
 why_text why.Busy = codes "busy"
 why_text why.Idle = codes "idle"

@@ -4,7 +4,7 @@ ghost use Rattle.json_buckets.specs.Buckets.{buckets_text};
 ghost use Rattle.json_forms.specs.Lines.{line};
 ghost use Rattle.json_host.specs.Replies.{end_data, refused_data};
 ghost use Rattle.host_session.specs.Feeding.{Feeds, Meets, MeetsBy, TakesAt};
-ghost use Rattle.host_session.specs.Refusing.{refusal_at, why_text};
+ghost use Rattle.host_session.specs.Refusing.{TellsWhy, refusal_at, why_text};
 
 use crate::seat::Seat;
 use crate::why::{Why, refusal_of};
@@ -12,6 +12,7 @@ use crate::world::{HostQuota, HostedMeans, HostedWorld};
 use json_buckets::print_buckets;
 use json_forms::{Arena, ReadError};
 use json_host::{HostMessage, SeatMessage, read_message, write_end, write_refused};
+use script_forms::refusal_of_line;
 use smithy_types::OutOfMemory;
 use std::alloc::Global;
 
@@ -53,7 +54,7 @@ impl<W: HostedWorld + Drop> Session<W> {
                 Ok(come)
             }
             Err(ReadError::Refused) => {
-                let come = refuse(alloc, Why::NoMessage, out)?;
+                let come = refuse_line(alloc, line, out)?;
                 Ok(come)
             }
             Err(ReadError::Memory) => Err(OutOfMemory),
@@ -149,7 +150,18 @@ impl<W: HostedWorld + Drop> Session<W> {
     }
 }
 
-// Refuses a line.
+// Refuses a line that is no message, and tells where and why.
+#[tactic(auto, using(crate::proofs::Meeting::tells_why))]
+fn refuse_line(alloc: Global, line: &[u8], out: &mut Vec<u8>) -> Result<Fed, OutOfMemory>
+    ensures text { OnOk result (TellsWhy out.old.items out.new.items) }
+    ensures open { IfOk result (λ come. come ≡ Fed.Open) }
+{
+    let why = refusal_of_line(alloc, line)?;
+    write_refused(alloc, why.as_str(), out)?;
+    Ok(Fed::Open)
+}
+
+// Refuses a message.
 fn refuse(alloc: Global, why: Why, out: &mut Vec<u8>) -> Result<Fed, OutOfMemory>
     ensures text { OnOk result (out.new.items ≡ out.old.items
         ++ line (refused_data (why_text why))) }

@@ -1,14 +1,12 @@
-//! Why a line is refused.
+//! Why a message is refused.
 ghost use Rattle.std.specs.Prelude.{◌≡◌};
 ghost use Rattle.host_session.specs.Refusing.{refusal_of, why_text};
 
 use json_host::SeatMessage;
 
-/// Why a line is refused. It changed nothing.
+/// Why a message is refused. It changed nothing.
 #[derive(Clone, Copy, Debug, PartialEq, Eq)]
 pub enum Why {
-    /// It is no message.
-    NoMessage,
     /// It is for a seat that there isn't.
     NoSeat,
     /// A run would be begun, and the seat's one before isn't over.
@@ -23,7 +21,6 @@ impl Why {
         ensures { result.now ≡ why_text self }
     {
         match self {
-            Why::NoMessage => "no message",
             Why::NoSeat => "no seat",
             Why::Busy => "busy",
             Why::Idle => "idle",
