@@ -188,6 +188,8 @@ pub enum Form {
     OptionalBlob,
     ErrorRule,
     ErrorRules,
+    HeaderUnit,
+    OptionalHeaderUnit,
     HostClient,
     HostClients,
     Description,

@@ -157,13 +157,23 @@ pub const TABLES: &[Table] = &[
         shape: Shape::List(Form::ErrorRule, 0),
     },
     Table {
+        name: "header_unit",
+        wanted: "[name, unit] of a header",
+        shape: Shape::Row(&[Form::Text, Form::Number]),
+    },
+    Table {
+        name: "optional_header_unit",
+        wanted: "[name, unit] of a header or null",
+        shape: Shape::Choice(&[Form::HeaderUnit, Form::Null]),
+    },
+    Table {
         name: "host_client",
-        wanted: "an object with client, errors and seed",
+        wanted: "an object with client, errors, retry_after and seed",
         shape: Shape::Object(HOST_CLIENT),
     },
     Table {
         name: "host_clients",
-        wanted: "a list of clients, each an object with client, errors and seed",
+        wanted: "a list of clients, each an object with client, errors, retry_after and seed",
         shape: Shape::List(Form::HostClient, 0),
     },
     Table {
@@ -182,6 +192,11 @@ const HOST_CLIENT: &[Member] = &[
     Member {
         name: "errors",
         form: Form::ErrorRules,
+        is_needed: true,
+    },
+    Member {
+        name: "retry_after",
+        form: Form::OptionalHeaderUnit,
         is_needed: true,
     },
     Member {
