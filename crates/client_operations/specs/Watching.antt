@@ -1,9 +1,10 @@
 -- What a watch makes of a waiter's calls, and what a poll of it means.
-use Rattle.std.specs.Prelude.{◌≡◌, ◌⊎◌, ◌↔◌, ℕ, Bool, true, false, IsSome, IsTrue, Ok, Option, List, [], ◌∷◌, Result}
+use Rattle.std.specs.Prelude.{◌≡◌, ◌⊎◌, ◌↔◌, ℕ, Bool, true, false, IsSome, IsTrue, Ok, Err, Option, List, [], ◌∷◌, Result}
 use Rattle.std.specs.Borrow.{Bor}
 use Rattle.std.proofs.Common.{ap, subst}
 use Rattle.smithy_types.specs.Chain.{Chained}
 use Rattle.smithy_types.specs.declared.acceptor.AcceptorState.{AcceptorState}
+use Rattle.smithy_types.specs.declared.acceptor.AcceptorState.TheVariants.{Success}
 use Rattle.smithy_types.specs.declared.payload.Payload.{Payload}
 use Rattle.smithy_types.specs.declared.timers.TimersCall.{TimersCall}
 use Rattle.smithy_types.specs.declared.timers.TimersCall.TheVariants as timers
@@ -31,6 +32,11 @@ made_for (timers.Ready sleep false) = calls.OfTimers (timers.Ready sleep false) 
 made_for (timers.Now moment) = calls.OfTimers (timers.Now moment) ∷ []
 made_for (timers.Start nanos sleep) = calls.OfTimers (timers.Start nanos sleep) ∷ []
 made_for (timers.GiveUp sleep) = calls.OfTimers (timers.GiveUp sleep) ∷ []
+
+-- the acceptor's answer to this output, or to this error of the model, is Success
+unfoldable pub IsAccepted : {O E : Type 0} → (Result (Bor O) (Bor E) → AcceptorState → Type 0) → Result O E → Type 0
+IsAccepted {O} says (Ok output) = (seen : Bor O) × (seen.now ≡ output) × says (Ok seen) Success
+IsAccepted {O} {E} says (Err error) = (seen : Bor E) × (seen.now ≡ error) × says (Err seen) Success
 
 -- T is the family of a client's types, and X to L are those
 module _ {T In Out Err X Q C I A R Z D P L : Type 0} where

@@ -1,14 +1,8 @@
 //! Clients whose outside always has sleeps, as a waiter wants it.
 
-use auth_endpoint::AuthScheme;
-use client_auth::{DeserializeResponse, SerializeRequest};
-use client_components::{ClientTypes, TypesOf};
-use client_retries::TakeOffer;
-use identity_cell::ResolveIdentity;
+use client_components::ClientTypes;
 use outside::Outside;
 use outside_scripted::ScriptedOutside;
-use retry_policy::ClassifyRetry;
-use retry_quota::Quota;
 
 /// An outside that always has sleeps.
 pub trait SleepingOutside: Outside {
@@ -24,7 +18,8 @@ impl SleepingOutside for ScriptedOutside {
     ghost always = { λ _. refl };
 }
 
-/// The types of a client whose outside always has sleeps.
+/// The types of a client whose outside always has sleeps. Every family of types with such an outside
+/// is one, and brings nothing for it.
 pub trait SleepingTypes: ClientTypes {
     ghost use Rattle.std.specs.Prelude.{◌≡◌, true};
 
@@ -32,15 +27,9 @@ pub trait SleepingTypes: ClientTypes {
     ghost always: { (outside : Self.Outside) → Self.Outside.sleeps outside ≡ true };
 }
 
-impl<
-    X: SleepingOutside + Drop,
-    Q: Quota + Drop,
-    C: ClassifyRetry,
-    I: TakeOffer,
-    A: AuthScheme,
-    R: ResolveIdentity,
-    Z: SerializeRequest,
-    D: DeserializeResponse,
-> SleepingTypes for TypesOf<X, Q, C, I, A, R, Z, D> {
-    ghost always = { X.always };
+impl<T: ClientTypes> SleepingTypes for T
+where
+    T::Outside: SleepingOutside,
+{
+    ghost always = { T.Outside.always };
 }

@@ -1,7 +1,7 @@
 //! A waiter over an operation: what is polled is an invocation, and the waiter waits by the clock and
 //! the sleeps of the operation's client.
-ghost use Rattle.std.specs.Prelude.{◌≡◌, ◌<◌, ◌≤◌, ◌+◌, ◌^◌, true};
-ghost use Rattle.client_operations.specs.Watching.{Asks, WaitsBy};
+ghost use Rattle.std.specs.Prelude.{◌≡◌, ◌<◌, ◌≤◌, ◌+◌, ◌^◌, IfOk, true};
+ghost use Rattle.client_operations.specs.Watching.{Asks, IsAccepted, WaitsBy};
 
 use crate::{SleepingTypes, polled};
 use client_components::RuntimeComponents;
@@ -80,7 +80,8 @@ impl<T: SleepingTypes, In: Wire + Clone + Drop, Out: Wire + Drop, Err: Wire + Dr
     }
 
     /// Polls until the acceptor has an end, with delays from `min` to `max` and at most `max_wait`
-    /// in all, in nanoseconds. `fuel` bounds the polls and the asks of sleeps.
+    /// in all, in nanoseconds. `fuel` bounds the polls and the asks of sleeps. A wait that succeeds
+    /// ends with what the acceptor accepts.
     pub fn wait<F: Fn(Result<&Out, &Err>) -> AcceptorState>(
         &mut self,
         acceptor: F,
@@ -95,9 +96,10 @@ impl<T: SleepingTypes, In: Wire + Clone + Drop, Out: Wire + Drop, Err: Wire + Dr
         requires a_second { 1000000000 ≤ min }
         requires in_order { min ≤ max }
         requires room { self.old.unready + fuel < 2 ^ 64 }
-        ensures { WaitsBy In.is_clone In.accepts In.reads_as Out.accepts Out.reads_as Err.accepts
-            Err.reads_as T.Outside.makes (F.post acceptor) min max max_wait self.old fuel result
-            self.new }
+        ensures accepted { IfOk result (λ last. IsAccepted (F.post acceptor) last.result) }
+        ensures waits { WaitsBy In.is_clone In.accepts In.reads_as Out.accepts Out.reads_as
+            Err.accepts Err.reads_as T.Outside.makes (F.post acceptor) min max max_wait self.old
+            fuel result self.new }
     {
         let alloc = self.alloc;
         let built = WaiterOrchestrator::builder()
