@@ -4,11 +4,12 @@
 
 use anyhow::Result;
 use client_builder::{OperationBuilder, added, refusal_of};
-use client_operations::{bearer_id, signing_by, steady_retry, taken_apart, without_facts};
-use client_retries::TakeOffer;
-use example_bakery_client::{
-    BakeryBuilder, BakeryClient, BakeryOperation, Ending, GetOrder, Watch, invoke, wait,
+use client_components::{ClientTypes, RuntimeComponents};
+use client_operations::{
+    SleepingOutside, SleepingTypes, Watch, bearer_id, signing_by, steady_retry, taken_apart,
+    without_facts,
 };
+use example_bakery_client::{BakeryBuilder, BakeryOperation, Ending, invoke, wait};
 use example_bakery_service::{
     BakeryDeserializer, BakerySerializer, ClientNameInterceptor, ERROR, GET_ORDER_OUTPUT,
     GetOrderInput, GetOrderOutput, PLACE_ORDER_OUTPUT, PlaceOrderInput, PlaceOrderOutput,
@@ -18,9 +19,9 @@ use http_schemes::BearerAuthScheme;
 use json_print::print::print_run;
 use json_print::{Ending as RunEnding, RunHead};
 use outside::Outside;
-use outside_scripted::{Row, ScriptedOutside, service};
+use outside_scripted::{Row, service};
 use rate_limit::ClientRateLimiter;
-use retry_policy::{Classifier, ClassifyRetry, ModeledAsRetryableClassifier};
+use retry_policy::{Classifier, ModeledAsRetryableClassifier};
 use retry_quota::{Quota, Registry};
 use run_grammar::Entry;
 use smithy_types::{Fault, OutOfMemory, SdkError, StopPoint, Text, TimeoutConfig, Timers, Wire};
@@ -38,7 +39,7 @@ const URL: &str = "http://localhost:1234";
 /// The token that requests are signed by.
 const TOKEN: &str = "flour";
 
-/// The most questions that the invocation asks.
+/// The most questions that an invocation asks.
 const FUEL: u64 = 200;
 
 /// The most polls and asked sleeps of the waiter.
@@ -46,6 +47,9 @@ const WAIT_FUEL: u64 = 100;
 
 /// The operation `PlaceOrder`.
 type PlaceOrder = BakeryOperation<PlaceOrderInput, PlaceOrderOutput>;
+
+/// The operation `GetOrder`.
+type GetOrder = BakeryOperation<GetOrderInput, GetOrderOutput>;
 
 /// It is too early, the oven is busy, and then the order is taken; at the third question it is
 /// baked.
@@ -116,11 +120,11 @@ fn reading(output_kind: u32) -> BakeryDeserializer {
 }
 
 // Places the order.
-fn place<X: Outside + Drop, Q: Quota + Drop, C: ClassifyRetry, I: TakeOffer>(
+fn place<T: ClientTypes>(
     rt: &HostRuntime,
     operation: PlaceOrder,
-    client: BakeryClient<X, Q, C, I>,
-) -> Result<(Text, X, Q)> {
+    client: RuntimeComponents<T>,
+) -> Result<(Text, T::Outside, T::Quota)> {
     let mut client = client;
     let placed = order(rt, &operation, &mut client);
     let (outside, quota) = taken_apart(client);
@@ -128,10 +132,10 @@ fn place<X: Outside + Drop, Q: Quota + Drop, C: ClassifyRetry, I: TakeOffer>(
 }
 
 // Builds `GetOrder` over what another operation left, and waits for an order.
-fn get_order<Q: Quota + Drop>(
+fn get_order<X: SleepingOutside + Drop, Q: Quota + Drop>(
     rt: &HostRuntime,
     order: Text,
-    outside: ScriptedOutside,
+    outside: X,
     quota: Q,
 ) -> Result<()> {
     let alloc = rt.alloc();
@@ -161,10 +165,10 @@ fn get_order<Q: Quota + Drop>(
 
 // Orders a loaf, prints the invocation's log and what the bucket holds, and answers the order's
 // id.
-fn order<X: Outside + Drop, Q: Quota + Drop, C: ClassifyRetry, I: TakeOffer>(
+fn order<T: ClientTypes>(
     rt: &HostRuntime,
     operation: &PlaceOrder,
-    client: &mut BakeryClient<X, Q, C, I>,
+    client: &mut RuntimeComponents<T>,
 ) -> Result<Text> {
     let output = invoke(rt.alloc(), operation, client, input(), FUEL)?;
     print_log(rt, client.entries().as_slice(), &output)?;
@@ -222,16 +226,17 @@ fn head(alloc: Global) -> Result<RunHead, OutOfMemory> {
 }
 
 // Waits for the order, and tells how that ended.
-fn fetch<Q: Quota + Drop, C: ClassifyRetry, I: TakeOffer>(
+fn fetch<T: SleepingTypes>(
     rt: &HostRuntime,
     operation: GetOrder,
-    client: BakeryClient<ScriptedOutside, Q, C, I>,
+    client: RuntimeComponents<T>,
     order: Text,
 ) -> Result<()> {
-    let mut watch = Watch::new(rt.alloc(), operation, client, order);
+    let mut watch = Watch::new(rt.alloc(), operation, client, GetOrderInput { order }, FUEL);
     let ending = wait(&mut watch, WAIT_FUEL);
     let seconds = watch.now() / SECOND;
-    tell(rt, watch.order.as_str(), watch.polls, seconds, &ending)
+    let order = watch.input.order.as_str();
+    tell(rt, order, watch.polls, seconds, &ending)
 }
 
 // Tells how the wait ended. A poll that failed says why in its fault, where it has one.

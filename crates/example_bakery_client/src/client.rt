@@ -1,5 +1,4 @@
-//! The client of an operation: what it is built of, and how it is invoked. X is what lies outside
-//! of it, Q the quota that retries are paid from, C a classifier of retries and I an interceptor.
+//! The client of an operation: what it is built of, and how it is invoked.
 ghost use Rattle.std.specs.List.{AllByRecursion};
 ghost use Rattle.std.specs.Prelude.{◌≡◌, ◌++◌, List, true};
 ghost use Rattle.example_bakery_service.specs.Model.{error_of, is_error};
@@ -11,16 +10,13 @@ ghost use Rattle.orchestrate.specs.Growth.{GrewByAtMost};
 ghost use Rattle.orchestrate.specs.Handing.{HadMemory};
 ghost use Rattle.run_grammar.specs.declared.answer.Entry.{Entry};
 
-use client_builder::{IdentityResolver, OperationBuilder, Scheme};
+use client_builder::OperationBuilder;
 use client_components::laws::further_attempts_are_paid;
-use client_components::{RuntimeComponents, TypesOf};
-use client_retries::{QuotaMeaning, TakeOffer};
+use client_components::{ClientTypes, RuntimeComponents};
 use example_bakery_service::{BakeryDeserializer, BakeryError, BakerySerializer};
 use http_schemes::{BearerAuthScheme, HttpIdentityResolver};
 use laws_client::retries::{decisions_tell_the_bucket, settings_bound_attempts};
 use orchestrate::{InvokeError, Operation};
-use outside::Outside;
-use retry_policy::ClassifyRetry;
 use retry_quota::Quota;
 use smithy_types::Wire;
 use std::alloc::Global;
@@ -36,21 +32,6 @@ pub type BakeryBuilder<In, Out> = OperationBuilder<
     BakeryDeserializer,
 >;
 
-/// The types of a client of the service.
-pub type BakeryTypes<X, Q, C, I> = TypesOf<
-    X,
-    Q,
-    C,
-    I,
-    Scheme<BearerAuthScheme>,
-    IdentityResolver<HttpIdentityResolver>,
-    BakerySerializer,
-    BakeryDeserializer,
->;
-
-/// The client of an operation of the service.
-pub type BakeryClient<X, Q, C, I> = RuntimeComponents<BakeryTypes<X, Q, C, I>>;
-
 /// An operation of the service.
 pub type BakeryOperation<In, Out> = Operation<In, Out, BakeryError>;
 
@@ -58,17 +39,10 @@ pub type BakeryOperation<In, Out> = Operation<In, Out, BakeryError>;
 /// `SdkError` is the outcome of one whole run; each further attempt of it began only where fewer
 /// were made than the settings allow, and the bucket granted its cost, so there are at most so many
 /// attempts. The last decision's note tells what the bucket holds afterwards.
-pub fn invoke<
-    X: Outside + Drop,
-    Q: Quota + Drop,
-    C: ClassifyRetry,
-    I: TakeOffer,
-    In: Wire + Drop,
-    Out: Wire + Drop,
->(
+pub fn invoke<T: ClientTypes, In: Wire + Drop, Out: Wire + Drop>(
     alloc: Global,
     operation: &BakeryOperation<In, Out>,
-    client: &mut BakeryClient<X, Q, C, I>,
+    client: &mut RuntimeComponents<T>,
     input: In,
     fuel: u64,
 ) -> Result<Out, InvokeError<BakeryError>>
@@ -77,13 +51,13 @@ pub fn invoke<
         (λ p error. error ≡ error_of p.bytes) input fuel result client.old.log client.new.log }
     ensures paid { HadMemory result → (l : List Entry) × (client.new.log ≡ client.old.log ++ l)
         × AllByRecursion (λ e.
-        Pays (prices_of (Q.meaning client.new.parts.quota)) e.question e.answer) l }
+        Pays (prices_of (T.Quota.meaning client.new.parts.quota)) e.question e.answer) l }
     ensures attempts { IsOfWholeRun result → GrewAsAllowed client.old.log client.new.log }
     ensures bucket { HadMemory result → (l : List Entry) × (client.new.log ≡ client.old.log ++ l)
-        × TellsBuckets (Q.meaning client.new.parts.quota) l }
+        × TellsBuckets (T.Quota.meaning client.new.parts.quota) l }
 {
     settings_bound_attempts();
-    further_attempts_are_paid::<BakeryTypes<X, Q, C, I>>();
-    decisions_tell_the_bucket::<BakeryTypes<X, Q, C, I>>();
+    further_attempts_are_paid::<T>();
+    decisions_tell_the_bucket::<T>();
     operation.invoke(alloc, client, input, fuel)
 }

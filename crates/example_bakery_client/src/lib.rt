@@ -5,5 +5,5 @@
 mod client;
 mod watching;
 
-pub use client::{BakeryBuilder, BakeryClient, BakeryOperation, invoke};
-pub use watching::{Ending, GetOrder, Watch, wait};
+pub use client::{BakeryBuilder, BakeryOperation, invoke};
+pub use watching::{Ending, wait};

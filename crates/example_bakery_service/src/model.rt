@@ -1,6 +1,8 @@
 //! The service's model: what its two operations take and answer, and the error that both share.
+ghost use Rattle.std.specs.Prelude.{◌≡◌};
 
 use smithy_types::Text;
+use std::alloc::AllocError;
 use thiserror::Error;
 
 /// The input of `PlaceOrder`.
@@ -22,6 +24,16 @@ pub struct PlaceOrderOutput {
 pub struct GetOrderInput {
     /// The order's id.
     pub order: Text,
+}
+
+impl Clone for GetOrderInput {
+    ghost is_clone = { λ input copy. copy ≡ input };
+
+    fn clone(&self) -> Result<GetOrderInput, AllocError> {
+        Ok(GetOrderInput {
+            order: self.order.clone()?,
+        })
+    }
 }
 
 /// How far an order is.
