@@ -1,6 +1,6 @@
 """Payloads of JSON, as `json_payloads` reads and makes them, against the `json` of Python.
 
-The program `golden_payloads` reads a shipment of each line, a declaration or a refusal, and makes it
+The program `golden_payloads` reads a shipment of each line, a declaration or an error, and makes it
 again. The lines of the table below stand with their outcomes in its crate, so that the gate runs
 them too.
 """
@@ -228,6 +228,23 @@ def moment_rows() -> Iterable[Row]:
     yield Row("signed is doubled", doubled, printed(DECLARATION), "declaration")
 
 
+# ---- errors, told by their status whatever the body is
+
+def error_rows() -> Iterable[Row]:
+    """An error's message, and bodies without one."""
+    message = {"message": "at most 2 kg"}
+    for name, body, outcome in [
+            ("an error", payload(message), printed(message)),
+            ("an error with another member", payload({**message, "code": 7}), printed(message)),
+            ("an error whose message is null", payload({"message": None}), "{}"),
+            ("an error whose message is a number", payload({"message": 2}), "{}"),
+            ("an error of an array", b"[]", "{}"),
+            ("an error without a body", b"", "{}"),
+            ("an error as HTML", b"<html><body>413</body></html>", "{}"),
+            ("an error that is no UTF-8", b"\xff", "{}")]:
+        yield Row(name, body, outcome, "error")
+
+
 # ---- errors with members of their own
 
 def refusal_rows() -> Iterable[Row]:
@@ -249,7 +266,7 @@ def refusal_rows() -> Iterable[Row]:
 def table() -> List[Row]:
     makers = (
         absent_rows, wrong_rows, doubled_rows, bound_rows, spelled_rows, inner_rows, text_rows,
-        declaration_rows, moment_rows, refusal_rows,
+        declaration_rows, moment_rows, refusal_rows, error_rows,
     )
     return [row for make in makers for row in make()]
 

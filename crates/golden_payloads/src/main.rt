@@ -11,9 +11,9 @@ mod refusals;
 use anyhow::Result;
 use declaration::{DECLARATION, Declaration};
 use forms::SHIPMENT;
-use json_payloads::{Json, JsonForm, ReadError, Refusal, read_payload};
+use json_payloads::{Json, JsonForm, ReadError, Refusal, ServiceError, read_payload};
 use model::Shipment;
-use refusals::{ParcelRefused, TOO_HEAVY};
+use refusals::{Fault, ParcelRefused, TOO_HEAVY};
 use smithy_types::{Blob, OutOfMemory, Payload, Wire};
 use std::alloc::Global;
 use std::io::Read;
@@ -45,7 +45,8 @@ fn print_outcome(rt: HostRuntime, structure: &str, name: &str, bytes: &[u8]) -> 
         "declaration" => {
             print_made::<Json<Declaration, DECLARATION>, Declaration>(rt, name, DECLARATION, bytes)
         }
-        "refusal" => print_refusal(rt, name, bytes),
+        "refusal" => print_error::<ParcelRefused>(rt, name, bytes),
+        "error" => print_error::<ServiceError<Fault>>(rt, name, bytes),
         _ => Ok(()),
     }
 }
@@ -70,12 +71,12 @@ fn print_made<W: Wire + Drop, T: JsonForm + Drop>(
 }
 
 // Prints what an error with this body is when it is read and made again.
-fn print_refusal(rt: HostRuntime, name: &str, bytes: Blob) -> Result<()> {
+fn print_error<W: Wire + Drop>(rt: HostRuntime, name: &str, bytes: Blob) -> Result<()> {
     let payload = Payload {
         kind: TOO_HEAVY,
         bytes,
     };
-    if let Some(again) = made_again::<ParcelRefused>(rt.alloc(), &payload)? {
+    if let Some(again) = made_again::<W>(rt.alloc(), &payload)? {
         println!(rt; "{name}\t{}", text_of(again.bytes.as_slice()))?;
     }
     Ok(())
