@@ -1,5 +1,5 @@
 -- Two conversations over the same bytes tell the same.
-use Rattle.std.proofs.Common.{◌≡◌, ◌∙◌, inl, inr, refl, sym, ap, subst, ℕ, ◌^◌, ◌-◌, ◌<◌, Bool, true, false, List, [], ◌∷◌, ◌++◌, length, Option, None, Some, arith}
+use Rattle.std.proofs.Common.{◌≡◌, ◌∙◌, inl, inr, refl, sym, ap, subst, ℕ, ◌^◌, ◌<◌, Bool, true, false, List, [], ◌∷◌, ◌++◌, length, Option, None, Some, is_some, append_assoc, arith}
 use Rattle.std.proofs.lemmas.Bool.{false≢true}
 use Rattle.cli_client.specs.Means.{NoClassifier, NoInterceptor, none, own_chain, own_ranked, own_says}
 use Rattle.cli_serve.specs.Conversing.{Converses, Greets, IsMute, LacksLine, Place, ServesLine, TakesFirst, place}
@@ -25,7 +25,9 @@ use Rattle.host_session.specs.declared.session.Fed.{Fed}
 use Rattle.host_session.specs.declared.session.Fed.TheVariants.{Open}
 use Rattle.host_session.specs.declared.session.Session.{Session}
 use Rattle.json_forms.specs.Lines.{line}
+use Rattle.json_host.specs.Messages.{IsMessage}
 use Rattle.json_host.specs.Replies.{opened_data}
+use Rattle.json_host.specs.declared.message.HostMessage.{HostMessage}
 use Rattle.json_print.proofs.determined.Endings.{same_some}
 use Rattle.retry_policy.specs.declared.classify.Classifier.{Classifier}
 use Rattle.smithy_base.specs.declared.intercept.Slot.{Slot}
@@ -37,10 +39,10 @@ use Rattle.laws_program.proofs.hosts.Heard.{EndsBy, Hears, OpensOf, RefusesFirst
 use Rattle.laws_program.proofs.hosts.Opened.{opened_alike}
 use Rattle.laws_program.proofs.hosts.Seats.{SeatsAlike}
 use Rattle.laws_program.proofs.hosts.Sessions.{SessionsAlike, fed_once}
-use Rattle.laws_program.proofs.hosts.Spoken.{AtEnd, BreaksOff, Closes, Full, IsWhole, Long, OneTelling, Speaks, Stop, counted, fronts, is_long, not_whole, not_whole_other, wholes}
+use Rattle.laws_program.proofs.hosts.Spoken.{AtEnd, BreaksOff, Closes, Full, IsWhole, Long, OneTelling, Speaks, Stop, begin_alike, counted, is_long, not_whole, not_whole_other, open≢closed, two_fronts, wholes}
 use Rattle.laws_program.proofs.hosts.Worlds.{BareAlike}
 use Rattle.laws_program.proofs.hosts.Written.{Adding, adding, adding_none}
-use Rattle.laws_program.specs.Hosts.Telling.{OneBeginsOther, OneEnd, OneTalk}
+use Rattle.laws_program.specs.Hosts.Telling.{AlikeBegins, AlikeBy, AlikeOf, AlikeTalks, AreMessages, OneBeginsOther, OneEnd, OneTalk}
 
 -- ---- the host of the program
 
@@ -68,7 +70,7 @@ unrefused : (first : List ℕ) (d : HostDescription) (reason : Refusal) → IsDe
 unrefused first d reason is fits (inl (bad, not)) = not d is
 unrefused first d reason is fits (inr (large, (e, it, unfit))) = false≢true (sym unfit ∙ ap description_fits (one_description first e d it is) ∙ fits)
 
-opened_once : (first told text : List ℕ) (come came : Fed) (new more : Session OwnClient) → OpensOf own_means OwnOpens first new told come → OpensOf own_means OwnOpens first more text came → OneTelling Alike told text come came (Some new) (Some more)
+opened_once : (first told text : List ℕ) (come came : Fed) (new more : Session OwnClient) → OpensOf own_means OwnOpens first new told come → OpensOf own_means OwnOpens first more text came → OneTelling Alike (AlikeOf false first) told text come came (Some new) (Some more)
 opened_once first told text come came new more s t =
     let same = one_description first s.description t.description s.is t.is in
     let left = opened_alike own_ranked s.description new more s.opened (subst (λ d. OwnOpens d more) (sym same) t.opened) in
@@ -78,7 +80,7 @@ opened_once first told text come came new more s t =
       left = left;
     }
 
-told_once : (bytes : List ℕ) (old two new more : Option (Session OwnClient)) (told text : List ℕ) (come came : Fed) → Alike old two → Told bytes old new told come → Told bytes two more text came → OneTelling Alike told text come came new more
+told_once : (bytes : List ℕ) (old two new more : Option (Session OwnClient)) (told text : List ℕ) (come came : Fed) → Alike old two → Told bytes old new told come → Told bytes two more text came → OneTelling Alike (AlikeOf (is_some old) bytes) told text come came new more
 told_once bytes None None None None told text come came alike s t = record { told_is = s.1 ∙ sym t.1; come_is = s.2 ∙ sym t.2; left = tt }
 told_once bytes None None None (Some more) told text come came alike s t = absurd (unrefused bytes t.description s.0.0 t.is t.fits s.0.1)
 told_once bytes None None (Some new) None told text come came alike s t = absurd (unrefused bytes s.description t.0.0 s.is s.fits t.0.1)
@@ -88,8 +90,15 @@ told_once bytes (Some old) None new more told text come came alike s t = absurd 
 told_once bytes (Some old) (Some two) None more told text come came alike s t = absurd s
 told_once bytes (Some old) (Some two) (Some new) None told text come came alike s t = absurd t
 told_once bytes (Some old) (Some two) (Some new) (Some more) told text come came alike s t =
-    let one = fed_once own_says own_chain slot_alike bytes old two new more [] told text come came alike s t in
+    let one = fed_once own_says own_chain slot_alike bytes old two new more told text come came alike s t in
     record { told_is = one.told_is; come_is = one.come_is; left = one.left }
+
+-- behind a line that is fed there is a session
+goes_on : (line : List ℕ) (old new : Option (Session OwnClient)) (told : List ℕ) → Told line old new told Open → is_some new ≡ true
+goes_on line None None told s = absurd (open≢closed s.2)
+goes_on line None (Some new) told s = refl
+goes_on line (Some old) None told s = absurd s
+goes_on line (Some old) (Some new) told s = refl
 
 -- ---- a whole conversation
 
@@ -215,14 +224,15 @@ conversed bytes end before after old new left kept h =
 
 -- ---- two of them
 
-pub one_begins_other : OneBeginsOther
-one_begins_other bytes written first second before after begun later old new start end a b o u k l s t =
+pub alike_begins : AlikeBegins
+alike_begins bytes written first second before after begun later old new start end a b o u k l s t =
     let one = conversed bytes first before after old new a k s in
-    let two = conversed bytes second begun later start end b l t in (
+    let two = conversed bytes second begun later start end b l t in
+    let on = begin_alike Told is_some goes_on Alike told_once one.lines two.lines one.stop two.stop None None bytes one.text two.text tt one.speaks two.speaks in (
       one.text,
       two.text,
       record { first = one.adds.written written o; second = two.adds.written written u },
-      fronts Told Alike told_once one.lines two.lines one.stop two.stop None None bytes one.text two.text tt one.speaks two.speaks,
+      record { more = on.more; rest = on.rest; alike = (on.lines, on.alike) },
     )
 
 -- where nothing broke it off, a conversation is whole
@@ -238,13 +248,53 @@ whole end bytes text (first ∷ lines) Full short answers s m = let count = coun
 whole end bytes text (first ∷ lines) Long short answers s m = tt
 whole end bytes text (first ∷ lines) BreaksOff short answers s m = false≢true (sym m ∙ answers)
 
-pub one_talk : OneTalk
-one_talk bytes written first second before after begun later old new start end short a b o u k l p q s t =
+pub alike_talks : AlikeTalks
+alike_talks bytes written first second before after begun later old new start end short a b o u k l p q s t =
     let one = conversed bytes first before after old new a k s in
     let two = conversed bytes second begun later start end b l t in
-    let same = wholes Told Alike told_once one.lines two.lines one.stop two.stop None None bytes one.text two.text
-    (whole first bytes one.text one.lines one.stop short p one.speaks one.means) (whole second bytes two.text two.lines two.stop short q two.speaks two.means) tt one.speaks two.speaks in
-    one.adds.written written o ∙ ap (λ text. Some (written ++ text)) same.text_is ∙ sym (two.adds.written written u)
+    let whole_of = wholes Told is_some goes_on Alike told_once one.lines two.lines one.stop two.stop None None bytes one.text two.text
+    (whole first bytes one.text one.lines one.stop short p one.speaks one.means) (whole second bytes two.text two.lines two.stop short q two.speaks two.means) tt one.speaks two.speaks in (
+      one.text,
+      two.text,
+      record { first = one.adds.written written o; second = two.adds.written written u },
+      (whole_of.lines, whole_of.texts),
+    )
+
+-- ---- over messages
+
+behind_line : (bytes front rest line behind : List ℕ) → bytes ≡ front ++ 10 ∷ rest → rest ≡ line ++ 10 ∷ behind → bytes ≡ (front ++ 10 ∷ line) ++ 10 ∷ behind
+behind_line bytes front rest line behind whole is = whole ∙ ap (λ x. front ++ 10 ∷ x) is ∙ sym (append_assoc front (10 ∷ line) (10 ∷ behind))
+
+told_same : (line told text : List ℕ) (m : HostMessage) → IsMessage line m → AlikeOf true line told text → told ≡ text
+told_same line told text m is (inl same) = same
+told_same line told text m is (inr why) = absurd (why.none m is)
+
+same_behind : (bytes : List ℕ) → AreMessages bytes → (lines : List (List ℕ)) (front rest one other : List ℕ) → bytes ≡ front ++ 10 ∷ rest → AlikeBy true lines rest one other → one ≡ other
+same_behind bytes messages [] front rest one other whole alike = alike.0 ∙ sym alike.1
+same_behind bytes messages (line ∷ lines) front rest one other whole alike =
+    let place = behind_line bytes front rest line alike.behind whole alike.begins in
+    let message = messages front line alike.behind place alike.whole in
+    let told = told_same line alike.told alike.text message.0 message.1 alike.alike in
+    let more = same_behind bytes messages lines (front ++ 10 ∷ line) alike.behind alike.more alike.rest place alike.goes in
+    alike.one_is ∙ (λ i. told i ++ more i) ∙ sym alike.other_is
+
+-- two texts over messages that are alike are the same
+same_text : (bytes one other : List ℕ) → AreMessages bytes → (lines : List (List ℕ)) → AlikeBy false lines bytes one other → one ≡ other
+same_text bytes one other messages [] alike = alike.0 ∙ sym alike.1
+same_text bytes one other messages (line ∷ lines) alike =
+    let more = same_behind bytes messages lines line alike.behind alike.more alike.rest alike.begins alike.goes in
+    alike.one_is ∙ (λ i. alike.alike i ++ more i) ∙ sym alike.other_is
+
+pub one_begins_other : OneBeginsOther
+one_begins_other bytes written first second before after begun later old new start end messages a b o u k l s t =
+    let both = alike_begins bytes written first second before after begun later old new start end a b o u k l s t in
+    let on = both.3 in
+    (both.0, both.1, both.2, two_fronts both.0 both.1 on.more on.rest (same_text bytes (both.0 ++ on.more) (both.1 ++ on.rest) messages on.alike.0 on.alike.1))
+
+pub one_talk : OneTalk
+one_talk bytes written first second before after begun later old new start end messages short a b o u k l p q s t =
+    let both = alike_talks bytes written first second before after begun later old new start end short a b o u k l p q s t in
+    both.2.first ∙ ap (λ text. Some (written ++ text)) (same_text bytes both.0 both.1 messages both.3.0 both.3.1) ∙ sym both.2.second
 
 -- behind the first line, what a whole conversation ends with
 abbrev ended_as : Bool → Ended
@@ -289,8 +339,8 @@ unfed bytes a b first second BreaksOff end w v s t m n = absurd w
 same_status : (bytes a b : List ℕ) (first second : Ended) (lines others : List (List ℕ)) (stop end : Stop) → IsWhole stop → IsWhole end → is_long stop ≡ is_long end → Speaks Told lines stop None bytes a → Speaks Told others end None bytes b
     → Means first lines stop bytes → Means second others end bytes → first ≡ second
 same_status bytes a b first second [] [] stop end w v long s t m n = unfed bytes a b first second stop end w v s t m n
-same_status bytes a b first second [] (l ∷ others) stop end w v long s t m n = absurd (not_whole Told Alike told_once stop bytes a t.told l None None t.mid t.behind w tt s t.tells)
-same_status bytes a b first second (l ∷ lines) [] stop end w v long s t m n = absurd (not_whole_other Told Alike told_once end bytes b s.told l None None s.mid s.behind v tt s.tells t)
+same_status bytes a b first second [] (l ∷ others) stop end w v long s t m n = absurd (not_whole Told is_some goes_on Alike told_once stop bytes a t.told l None None t.mid t.behind w tt s t.tells)
+same_status bytes a b first second (l ∷ lines) [] stop end w v long s t m n = absurd (not_whole_other Told is_some goes_on Alike told_once end bytes b s.told l None None s.mid s.behind v tt s.tells t)
 same_status bytes a b first second (l ∷ lines) (k ∷ others) stop end w v long s t m n = printed first (length lines) stop w m ∙ ap ended_as long ∙ sym (printed second (length others) end v n)
 
 pub one_end : OneEnd
@@ -299,5 +349,5 @@ one_end bytes first second before after begun later old new start end short a b 
     let two = conversed bytes second begun later start end b l t in
     let w = whole first bytes one.text one.lines one.stop short p one.speaks one.means in
     let v = whole second bytes two.text two.lines two.stop short q two.speaks two.means in
-    let same = wholes Told Alike told_once one.lines two.lines one.stop two.stop None None bytes one.text two.text w v tt one.speaks two.speaks in
+    let same = wholes Told is_some goes_on Alike told_once one.lines two.lines one.stop two.stop None None bytes one.text two.text w v tt one.speaks two.speaks in
     same_status bytes one.text two.text first second one.lines two.lines one.stop two.stop w v same.long_is one.speaks two.speaks one.means two.means

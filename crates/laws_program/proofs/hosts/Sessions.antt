@@ -1,15 +1,14 @@
 -- What a session tells its host of a line is determined.
-use Rattle.std.proofs.Common.{◌≡◌, ◌∙◌, inl, inr, refl, sym, ap, subst, ℕ, List, ◌++◌, Option, None, Some, slice_get, slice_set, is_some}
+use Rattle.std.proofs.Common.{◌≡◌, ◌∙◌, inl, inr, refl, sym, ap, subst, ℕ, true, List, [], ◌++◌, Option, None, Some, slice_get, slice_set, is_some}
 use Rattle.cli_serve.specs.Opening.{ServedClient}
 use Rattle.client_retries.specs.Meanings.{InterceptorMeans}
-use Rattle.host_session.specs.Feeding.{Feeds, Meets, MeetsBy, Refuses, TakesAt, lent}
+use Rattle.host_session.specs.Feeding.{Feeds, Meets, MeetsBy, Refuses, RefusesLine, TakesAt, lent}
 use Rattle.host_session.specs.Refusing.{refusal_at, refusal_by, refusal_of}
 use Rattle.host_session.specs.declared.seat.Seat.{Seat}
 use Rattle.host_session.specs.declared.seat.SeatRun.{SeatRun}
 use Rattle.host_session.specs.declared.session.Fed.{Fed}
 use Rattle.host_session.specs.declared.session.Session.{Session}
 use Rattle.host_session.specs.declared.why.Why.{Why}
-use Rattle.host_session.specs.declared.why.Why.TheVariants.{NoMessage}
 use Rattle.json_buckets.specs.Buckets.{buckets_text}
 use Rattle.json_forms.specs.Lines.{line}
 use Rattle.json_host.specs.Messages.{IsMessage}
@@ -31,6 +30,7 @@ use Rattle.laws_program.proofs.hosts.Running.{UnderWayAlike}
 use Rattle.laws_program.proofs.hosts.Seats.{SeatsAlike, takes_alike}
 use Rattle.laws_program.proofs.hosts.Spoken.{OneTelling}
 use Rattle.laws_program.proofs.hosts.Worlds.{BareAlike, back_alike, lent_alike, means}
+use Rattle.laws_program.specs.Hosts.Telling.{AlikeOf}
 
 -- a line is one message
 one_message : (bytes : List ℕ) (m n : HostMessage) → IsMessage bytes m → IsMessage bytes n → m ≡ n
@@ -60,9 +60,13 @@ module _ {C I : Type 0} where
   refused_at number m one two alike = refused_by m (slice_get one.seats.items number) (slice_get two.seats.items number) (alike_at (SeatsAlike BareAlike) one.seats.items two.seats.items number alike.seats)
 
   module _ (says : C → InterceptorContext → RetryAction → RetryAction) (chain : InterceptorMeans I) (runs : RunsAlike chain.runs) where
-    -- what a line tells, and what it leaves
+    -- what a message tells, and what it leaves
     abbrev Once : List ℕ → List ℕ → Fed → Fed → Session (ServedClient C I) → Session (ServedClient C I) → Type 0
-    Once text other come came new more = OneTelling SessionsAlike text other come came new more
+    Once text other come came new more = OneTelling SessionsAlike (λ a b. a ≡ b) text other come came new more
+
+    -- what a line tells, and what it leaves
+    abbrev OnceOf : List ℕ → List ℕ → List ℕ → Fed → Fed → Session (ServedClient C I) → Session (ServedClient C I) → Type 0
+    OnceOf bytes text other come came new more = OneTelling SessionsAlike (AlikeOf true bytes) text other come came new more
 
     taken_once : (number : ℕ) (m : SeatMessage) (old two new more : Session (ServedClient C I)) (before text other : List ℕ) (come came : Fed) → SessionsAlike old two → come ≡ came
         → TakesAt (means says chain) number m old before new text → TakesAt (means says chain) number m two before more other → Once text other come came new more
@@ -112,10 +116,23 @@ module _ {C I : Type 0} where
     }
     met_once message.Close old two new more before text other come came alike s t = record { told_is = s.1 ∙ sym t.1; come_is = s.2 ∙ sym t.2; left = stays old two new more alike s.0 t.0 }
 
-    pub fed_once : (bytes : List ℕ) (old two new more : Session (ServedClient C I)) (before text other : List ℕ) (come came : Fed) → SessionsAlike old two
-        → Feeds (means says chain) bytes old before new text come → Feeds (means says chain) bytes two before more other came → Once text other come came new more
-    fed_once bytes old two new more before text other come came alike (inl (m, is, s)) (inl (n, it, t)) =
-        met_once m old two new more before text other come came alike s (subst (λ x. Meets (means says chain) x two before more other came) (sym (one_message bytes m n is it)) t)
-    fed_once bytes old two new more before text other come came alike (inl (m, is, s)) (inr (none, t)) = absurd (none m is)
-    fed_once bytes old two new more before text other come came alike (inr (none, s)) (inl (n, it, t)) = absurd (none n it)
-    fed_once bytes old two new more before text other come came alike (inr (none, s)) (inr (not, t)) = refused_once NoMessage old two new more before text other come came alike s t
+    -- both tell that a line is no message
+    unread_once : (bytes : List ℕ) (old two new more : Session (ServedClient C I)) (text other : List ℕ) (come came : Fed) → SessionsAlike old two → ((m : HostMessage) → IsMessage bytes m → ⊥)
+        → RefusesLine old [] new text come → RefusesLine two [] more other came → OnceOf bytes text other come came new more
+    unread_once bytes old two new more text other come came alike none s t = record {
+      told_is = inr (record { none = none; first = s.told; second = t.told });
+      come_is = s.stays ∙ sym t.stays;
+      left = stays old two new more alike s.same t.same;
+    }
+
+    heard_once : (bytes text other : List ℕ) (new more : Session (ServedClient C I)) (come came : Fed) → Once text other come came new more → OnceOf bytes text other come came new more
+    heard_once bytes text other new more come came once = record { told_is = inl once.told_is; come_is = once.come_is; left = once.left }
+
+    pub fed_once : (bytes : List ℕ) (old two new more : Session (ServedClient C I)) (text other : List ℕ) (come came : Fed) → SessionsAlike old two
+        → Feeds (means says chain) bytes old [] new text come → Feeds (means says chain) bytes two [] more other came → OnceOf bytes text other come came new more
+    fed_once bytes old two new more text other come came alike (inl (m, is, s)) (inl (n, it, t)) =
+        heard_once bytes text other new more come came
+        (met_once m old two new more [] text other come came alike s (subst (λ x. Meets (means says chain) x two [] more other came) (sym (one_message bytes m n is it)) t))
+    fed_once bytes old two new more text other come came alike (inl (m, is, s)) (inr (none, t)) = absurd (none m is)
+    fed_once bytes old two new more text other come came alike (inr (none, s)) (inl (n, it, t)) = absurd (none n it)
+    fed_once bytes old two new more text other come came alike (inr (none, s)) (inr (not, t)) = unread_once bytes old two new more text other come came alike none s t
