@@ -8,11 +8,14 @@ the requests, and how many runs ended so and so.
 It wants the proved programs (./smithy_replay --prove; rt run in crates/golden_auth) and gcc.
 """
 import pathlib
-import subprocess
 import sys
 import tempfile
 
 TOP = pathlib.Path(__file__).resolve().parent.parent
+sys.path.insert(0, str(TOP))
+
+from tests.support.refusing import Refusing  # noqa: E402
+
 PROGRAM = TOP / "crates/smithy_replay/out/smithy_replay"
 ROWS = TOP / "crates/golden_auth/out/golden_auth"
 NO_MEMORY = 5
@@ -30,26 +33,6 @@ EXAMPLES = [
 ]
 
 
-class Refusing:
-    """The program with a request for memory refused."""
-
-    def __init__(self, room):
-        self.library = pathlib.Path(room) / "refuse.so"
-        self.count = pathlib.Path(room) / "requests"
-        command = ["gcc", "-O2", "-shared", "-fPIC", "-o", self.library, TOP / "bench/refuse.c"]
-        subprocess.run(command, check=True)
-
-    def run(self, command, text, number):
-        """The status and what was written, where the request of this number is refused; 0 is none."""
-        preload = {"LD_PRELOAD": str(self.library), "REFUSED_REQUEST": str(number), "REQUESTS_FILE": str(self.count)}
-        ran = subprocess.run(command, input=text, capture_output=True, env=preload)
-        return ran.returncode, ran.stdout
-
-    def requests(self):
-        """How many requests the last run made."""
-        return int(self.count.read_text())
-
-
 def without_memory(ended, whole):
     """Whether a run of the program ended for want of memory."""
     return ended == (NO_MEMORY, b"")
@@ -62,8 +45,7 @@ def stopped_short(ended, whole):
 
 def tried(refusing, command, text, is_refused):
     """Refuses each request of one example. Says whether every run ended as it must."""
-    whole = refusing.run(command, text, 0)
-    requests = refusing.requests()
+    whole, requests = refusing.run_whole(command, text)
     without, same, bad = 0, 0, []
     for number in range(1, requests + 1):
         ended = refusing.run(command, text, number)
@@ -84,7 +66,7 @@ def main():
     if not ROWS.exists():
         sys.exit("memory: the program of rows isn't built; rt run in its folder builds it")
     with tempfile.TemporaryDirectory() as room:
-        refusing = Refusing(room)
+        refusing = Refusing(pathlib.Path(room))
         ends = []
         for words, script in EXAMPLES:
             text = (TOP / script).read_bytes() if script else b""

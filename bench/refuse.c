@@ -1,5 +1,6 @@
 /* Refuses the request for memory whose number REFUSED_REQUEST names, counted from 1, and writes how
-   many there were to the file that REQUESTS_FILE names. bench/memory.py loads it before the program. */
+   many there were to the file that REQUESTS_FILE names. tests/support/refusing.py loads it before a
+   program. */
 #define _GNU_SOURCE
 #include <errno.h>
 #include <stdatomic.h>
