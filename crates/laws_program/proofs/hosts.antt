@@ -9,3 +9,4 @@ pub mod Sessions
 pub mod Opened
 pub mod Heard
 pub mod Conversed
+pub mod Paying

@@ -1,6 +1,7 @@
-//! Two conversations of `serve` over the same bytes write the same. The function does nothing: its
-//! contract is the law.
+//! What holds of the conversations of `serve`. The functions do nothing: their contracts are the
+//! laws.
 
+ghost use Rattle.laws_program.specs.Hosts.Paying.{ConversationsPay, LinesPay};
 ghost use Rattle.laws_program.specs.Hosts.Telling.{AlikeBegins, AlikeTalks, OneBeginsOther, OneEnd, OneTalk};
 
 /// Of two conversations over the same bytes, both tell the same of each line, but for the place and
@@ -15,4 +16,14 @@ pub fn hosts_are_determined()
     ensures status { OneEnd }
     ensures fronts { OneBeginsOther }
     ensures text { OneTalk }
+{}
+
+/// The seats of a session share its buckets and limiters. Each line moves these by what the client of
+/// its own seat answered, entry by entry, and in a conversation line by line. Only questions that
+/// call the quota change what the registers mean. A further attempt is paid for at the prices of its
+/// bucket, and the note of each decision tells what the bucket holds behind it. A line that is for
+/// no seat, or is refused, moves nothing.
+pub fn seats_pay()
+    ensures line { LinesPay }
+    ensures conversation { ConversationsPay }
 {}
