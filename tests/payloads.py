@@ -44,11 +44,21 @@ SHIPMENT: Json = {
     "labels": {"de": "Vorsicht", "en": "mind"}, "rings": 1, "fragile": True, "image": "AAH/",
     "packed": -1, "payment": {"cents": 5}, "numbers": NUMBERS,
 }
+FEW: Json = {
+    "id": "s-2", "state": "PACKED", "from": {"street": "Low Road"}, "parcels": [], "rings": 1,
+    "fragile": False, "packed": 0,
+}
+# Structures in it, each with the members that must be there.
+PARTS = [
+    ("from", {"street": "Low Road", "house": 4}, ["street"]),
+    ("numbers", {**NUMBERS, "double": 2.5}, list(NUMBERS)),
+]
 REQUIRED = ["id", "state", "from", "parcels", "fragile", "packed"]
 DEFAULTS = {"rings": 3}
 WRONG = {name: [] for name in SHIPMENT}
 WRONG["parcels"] = {}
 WRONG["weights"] = {}
+DIGITS = b"9" * 16384
 
 
 def printed(value: Json) -> str:
@@ -146,10 +156,31 @@ def inner_rows() -> Iterable[Row]:
         yield Row(f"double is the text {value}", payload(wrong), "WrongType")
 
 
-def nested(levels: int) -> bytes:
-    """A shipment that nests so many levels, in an unknown member."""
+def with_part(name: str, text: str) -> bytes:
+    """A shipment with few members, of which the one of this name is this text."""
+    others = {key: value for key, value in FEW.items() if key != name}
+    return f"{json.dumps(others)[:-1]}, \"{name}\": {text}}}".encode()
+
+
+def part_rows() -> Iterable[Row]:
+    """Each member of a structure in a structure missing, null, of a wrong type and doubled."""
+    for part, structure, required in PARTS:
+        for name in structure:
+            fewer = {key: value for key, value in structure.items() if key != name}
+            absent = "Missing" if name in required else printed({**FEW, part: fewer})
+            first = f"{{\"{name}\": [], {json.dumps(structure)[1:]}"
+            for fault, text, outcome in [
+                    ("missing", json.dumps(fewer), absent),
+                    ("null", json.dumps({**structure, name: None}), absent),
+                    ("of a wrong type", json.dumps({**structure, name: []}), "WrongType"),
+                    ("doubled", first, printed({**FEW, part: structure}))]:
+                yield Row(f"{name} of {part} is {fault}", with_part(part, text), outcome)
+
+
+def nested(value: Json, levels: int) -> bytes:
+    """The value with an unknown member, by which it nests so many levels."""
     inner = "[" * (levels - 1) + "]" * (levels - 1)
-    return f"{printed(SHIPMENT)[:-1]},\"unknown\":{inner}}}".encode()
+    return f"{printed(value)[:-1]},\"unknown\":{inner}}}".encode()
 
 
 def text_rows() -> Iterable[Row]:
@@ -163,9 +194,9 @@ def text_rows() -> Iterable[Row]:
     yield Row("an array", b"[]", "WrongType")
     yield Row("null", b"null", "WrongType")
     yield Row("a text", b'"s-1"', "WrongType")
-    yield Row("nested 127 levels", nested(127), printed(SHIPMENT))
-    yield Row("nested 128 levels", nested(128), "NotJson")
-    digits = payload(SHIPMENT).replace(b'"packed": -1', b'"packed": ' + b"9" * 16384)
+    yield Row("nested 127 levels", nested(SHIPMENT, 127), printed(SHIPMENT))
+    yield Row("nested 128 levels", nested(SHIPMENT, 128), "NotJson")
+    digits = payload(SHIPMENT).replace(b'"packed": -1', b'"packed": ' + DIGITS)
     yield Row("16 KiB of digits", digits, "NotJson")
     yield Row("300 digits", payload({**SHIPMENT, "packed": 10**299}), "OutOfRange")
     huge = payload(SHIPMENT).replace(b'"packed": -1', b'"packed": 1e400')
@@ -238,7 +269,12 @@ def error_rows() -> Iterable[Row]:
             ("an error with another member", payload({**message, "code": 7}), printed(message)),
             ("an error whose message is null", payload({"message": None}), "{}"),
             ("an error whose message is a number", payload({"message": 2}), "{}"),
+            ("an error whose message is doubled", b'{"message":2,' + payload(message)[1:],
+             printed(message)),
             ("an error of an array", b"[]", "{}"),
+            ("an error nested 127 levels", nested(message, 127), printed(message)),
+            ("an error nested 128 levels", nested(message, 128), "{}"),
+            ("an error of 16 KiB of digits", b'{"message":' + DIGITS + b"}", "{}"),
             ("an error without a body", b"", "{}"),
             ("an error as HTML", b"<html><body>413</body></html>", "{}"),
             ("an error that is no UTF-8", b"\xff", "{}")]:
@@ -254,8 +290,18 @@ def refusal_rows() -> Iterable[Row]:
             ("a refusal", payload(limit), printed(limit)),
             ("a refusal without wait", payload({"grams": 2000}), printed({"grams": 2000})),
             ("a refusal without grams", payload({"wait": 60}), "null"),
+            ("a refusal whose wait is null", payload({**limit, "wait": None}),
+             printed({"grams": 2000})),
+            ("a refusal whose wait is a text", payload({**limit, "wait": "60"}), "null"),
+            ("a refusal whose grams are null", payload({**limit, "grams": None}), "null"),
+            ("a refusal whose grams are a text", payload({**limit, "grams": "2000"}), "null"),
             ("a refusal whose grams are out of range", payload({"grams": 2**32}), "null"),
+            ("a refusal whose grams are doubled", b'{"grams":"",' + payload(limit)[1:],
+             printed(limit)),
             ("a refusal with another member", payload({**limit, "code": 7}), printed(limit)),
+            ("a refusal nested 127 levels", nested(limit, 127), printed(limit)),
+            ("a refusal nested 128 levels", nested(limit, 128), "null"),
+            ("a refusal of 16 KiB of digits", b'{"grams":' + DIGITS + b"}", "null"),
             ("a refusal that is null", b"null", "null"),
             ("a refusal without a body", b"", "null"),
             ("a refusal as HTML", b"<html><body>413</body></html>", "null"),
@@ -265,8 +311,8 @@ def refusal_rows() -> Iterable[Row]:
 
 def table() -> List[Row]:
     makers = (
-        absent_rows, wrong_rows, doubled_rows, bound_rows, spelled_rows, inner_rows, text_rows,
-        declaration_rows, moment_rows, refusal_rows, error_rows,
+        absent_rows, wrong_rows, doubled_rows, bound_rows, spelled_rows, inner_rows, part_rows,
+        text_rows, declaration_rows, moment_rows, refusal_rows, error_rows,
     )
     return [row for make in makers for row in make()]
 
