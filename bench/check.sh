@@ -1,6 +1,6 @@
 #!/bin/sh
-# Counts the instructions of `check` by callgrind: a byte of a long print against one of a short
-# print. Each is the print of a whole run of retries, and `check` must say so.
+# Counts the instructions of `check` by callgrind: a byte and a line of a long print against those of
+# a short print. Each is the print of a whole run of retries, and `check` must say so.
 top=$(cd "$(dirname "$0")/.." && pwd)
 program=$top/crates/smithy_replay/out/smithy_replay
 room=$(mktemp -d)
@@ -38,14 +38,15 @@ memory() {
     /usr/bin/time -f %M "$program" check <"$1" 2>&1 >/dev/null | tail -1 | awk '{ print int($1 / 1024) }'
 }
 
-echo "| calls | print, bytes | instructions | a byte | memory, MB |"
-echo "|---|---|---|---|---|"
+echo "| calls | print, bytes | instructions | a byte | a line | memory, MB |"
+echo "|---|---|---|---|---|---|"
 for row in "10 0" "850 0" "4300 0" "4300 1300"; do
     retries ${row} >"$room/run.json"
     "$program" replay <"$room/run.json" >"$room/print.txt"
     [ "$("$program" check <"$room/print.txt")" = '["yes"]' ] || exit 1
-    calls=$(($(wc -l <"$room/print.txt") - 2))
+    lines=$(wc -l <"$room/print.txt")
     bytes=$(wc -c <"$room/print.txt")
     spent=$(instructions "$room/print.txt")
-    echo "| $calls | $bytes | $spent | $((spent / bytes)) | $(memory "$room/print.txt") |"
+    costs="$((spent / bytes)) | $((spent / lines)) | $(memory "$room/print.txt")"
+    echo "| $((lines - 2)) | $bytes | $spent | $costs |"
 done

@@ -1,7 +1,7 @@
 #!/bin/sh
 # Counts the instructions of the program, by callgrind: a call of a long run against one of a short
 # run, also where a hook of each attempt merges a layer, and a byte of a long script that is read
-# against one of a short script.
+# against one of a short script. The last cost of a call leaves out what a run of no calls takes.
 top=$(cd "$(dirname "$0")/.." && pwd)
 program=$top/crates/smithy_replay/out/smithy_replay
 scripts=$(mktemp -d)
@@ -48,12 +48,15 @@ memory() {
 }
 
 for hook in '' ',["Hook read_before_attempt",["Hook",null,[["capture",1]],null]]'; do
-    echo "| calls | script, bytes | instructions | a call | memory, MB |"
-    echo "|---|---|---|---|---|"
-    for fuel in 1000 100000; do
+    echo "| calls | script, bytes | instructions | a call | without the start | memory, MB |"
+    echo "|---|---|---|---|---|---|"
+    retries 0 "$hook" >"$scripts/none.json"
+    none=$(instructions "$scripts/none.json")
+    for fuel in 1000 20000 100000; do
         retries "$fuel" "$hook" >"$scripts/run.json"
         spent=$(instructions "$scripts/run.json")
-        echo "| $fuel | $(wc -c <"$scripts/run.json") | $spent | $((spent / fuel)) | $(memory "$scripts/run.json") |"
+        costs="$((spent / fuel)) | $(((spent - none) / fuel)) | $(memory "$scripts/run.json")"
+        echo "| $fuel | $(wc -c <"$scripts/run.json") | $spent | $costs |"
     done
     echo
 done
