@@ -120,9 +120,10 @@ def without_symbols(path: str, copy: pathlib.Path) -> str:
 
 
 def ended(words: List[str], path: pathlib.Path) -> Tuple[int, bytes]:
-    """How a command ends over a script, and what it prints."""
+    """How a command ends over a script, and what it prints. That answers are left over is no news."""
+    pipes = {"stdout": subprocess.PIPE, "stderr": subprocess.DEVNULL}
     with open(path, "rb") as source:
-        run = subprocess.run(words, stdin=source, stdout=subprocess.PIPE)
+        run = subprocess.run(words, stdin=source, **pipes)
     return run.returncode, run.stdout
 
 
@@ -164,7 +165,8 @@ def memory(program: Program, path: pathlib.Path) -> int:
 def usage(program: Program, path: pathlib.Path) -> Usage:
     """What one run takes."""
     with open(path, "rb") as source:
-        child = subprocess.Popen(program.words, stdin=source, stdout=subprocess.DEVNULL)
+        pipes = {"stdout": subprocess.DEVNULL, "stderr": subprocess.DEVNULL}
+        child = subprocess.Popen(program.words, stdin=source, **pipes)
         _, status, taken = os.wait4(child.pid, 0)
         child.returncode = os.waitstatus_to_exitcode(status)
     return Usage(taken.ru_minflt, 1000 * (taken.ru_utime + taken.ru_stime))
