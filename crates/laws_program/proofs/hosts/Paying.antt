@@ -210,7 +210,7 @@ module _ {C I : Type 0} where
           steps = subst (λ q. Chained (Steps says chain) old.quota came.entries q) (sym t.quota) came.steps;
           grew = inl (record {
             number = number;
-            message = m;
+            asked = m;
             is = is;
             seat = t.seat;
             stands = t.stands;

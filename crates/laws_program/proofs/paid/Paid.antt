@@ -1,11 +1,10 @@
 -- The invocations that `client` prints pay for their attempts.
-use Rattle.std.proofs.Common.{◌≡◌, ◌∙◌, ap, refl, subst, sym, ℕ, ◌-◌, ◌<◌, ◌≤◌, ◌^◌, ◌++◌, true, List, [], ◌∷◌, length, map, append_assoc, inl, inr, arith, IfSome, None, Option, Some, slice_get}
+use Rattle.std.proofs.Common.{◌≡◌, ◌∙◌, ap, refl, subst, sym, ℕ, ◌-◌, ◌<◌, ◌^◌, ◌++◌, true, List, [], ◌∷◌, length, map, append_assoc, inl, inr, arith, IfSome, None, Option, Some, slice_get}
 use Rattle.std.specs.Prelude.{min, option_map}
 use Rattle.std.specs.Option.{option_map_or}
 use Rattle.std.proofs.lemmas.Bool.Decides.{nat_tests}
 use Rattle.std.proofs.lemmas.Option.{slice_get-map, slice_get_within}
 use Rattle.std.specs.List.{AllByRecursion}
-use Rattle.cli_client.specs.Client.{IsClientRun}
 use Rattle.cli_client.specs.Means.{NoClassifier, NoInterceptor, none, own_chain, own_ranked, own_says, OwnServed}
 use Rattle.laws_client.specs.Retries.Attempting.{SettingsBoundAttempts}
 use Rattle.cli_client_runs.specs.Invoking.{head_by}
@@ -13,8 +12,6 @@ use Rattle.cli_client_runs.specs.Means.{client_means}
 use Rattle.cli_client_runs.specs.Print.{buckets_text, loads_data}
 use Rattle.cli_client_runs.specs.Running.{Ran, Runs, loads_in}
 use Rattle.cli_client_runs.specs.declared.set.ClientSet.{ClientSet}
-use Rattle.json_scripts.specs.declared.client.script.ClientScript.{ClientScript}
-use Rattle.json_scripts.specs.declared.client.terms.InvocationRecord.{InvocationRecord}
 use Rattle.client_scripted.specs.declared.service.error.ServiceError.{ServiceError}
 use Rattle.client_components.proofs.PaidLemmas.{all_later, all_paid, kept_prices}
 use Rattle.client_components.proofs.QuotaLemmas.{all_keep}
@@ -36,7 +33,6 @@ use Rattle.retry_policy.specs.declared.classify.Classifier.{Classifier}
 use Rattle.run_grammar.specs.Standing.{State}
 use Rattle.run_grammar.specs.declared.answer.Entry.{Entry}
 use Rattle.json_print.specs.Print.{line}
-use Rattle.cli_shell.specs.declared.status.PrintStatus.{PrintStatus}
 use Rattle.smithy_base.specs.declared.intercept.Slot.{Slot}
 use Rattle.smithy_types.specs.Chain.{Chained}
 use Rattle.smithy_types.specs.declared.kinds.StopPoint.{StopPoint}

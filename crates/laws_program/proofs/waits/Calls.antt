@@ -1,17 +1,16 @@
 -- What scripted timers answer follows from what they were, want of memory aside.
-use Rattle.std.proofs.Common.{◌≡◌, ℕ, ◌+◌, ◌-◌, ◌≤◌, ◌<◌, true, false, List, [], ◌∷◌, ◌++◌, Option, Some, Ok, Err, zero, suc, arith, ap, sym, subst, refl, ◌∙◌, map, cond}
+use Rattle.std.proofs.Common.{◌≡◌, ℕ, ◌+◌, ◌-◌, ◌≤◌, ◌<◌, true, false, List, [], ◌∷◌, ◌++◌, Some, Ok, Err, zero, suc, arith, ap, sym, refl, ◌∙◌, map, cond}
 use Rattle.std.specs.Prelude.{unwrap_or}
 use Rattle.std.proofs.lemmas.List.Sums.{sum_by-cons}
 use Rattle.smithy_types.specs.declared.timers.TimersCall.{TimersCall}
 use Rattle.smithy_types.specs.declared.timers.TimersCall.TheVariants.{Now, Start, Ready, GiveUp}
-use Rattle.waiters.specs.Calls.{Call, Handed, asks, called, is_ask, polled}
+use Rattle.waiters.specs.Calls.{Call, Handed, asks, called, is_ask}
 use Rattle.waiters.specs.Delay.{IsDelay, cut_delay, drawn_delay, most_seconds}
 use Rattle.waiters.specs.WalkCalls.{unanswered, unready}
 use Rattle.waiters.specs.declared.timers.PollAnswer.TheVariants as poll
 use Rattle.waiters.specs.declared.timers.WaiterCall.{WaiterCall}
 use Rattle.waiters.specs.declared.timers.WaiterCall.TheVariants.{Timers, Word, Park, Poll}
 use Rattle.outside_scripted.proofs.DeterminedLemmas.{wakes}
-use Rattle.outside_scripted.specs.Words.{next_word}
 use Rattle.cli_wait.specs.declared.polls.PolledValue.{PolledValue}
 use Rattle.cli_wait.specs.declared.scripted_timers.ScriptedTimers.{ScriptedTimers}
 use Rattle.cli_wait.specs.Makes.{Makes, Ticks, due_of, dues}

@@ -1,5 +1,5 @@
 -- What `wait` says is determined by its input.
-use Rattle.std.proofs.Common.{◌≡◌, ℕ, false, List, [], Some, ap, sym, subst, ◌∙◌}
+use Rattle.std.proofs.Common.{◌≡◌, ℕ, false, List, Some, ap, sym, subst, ◌∙◌}
 use Rattle.cli_shell.proofs.Saying.{bytes-say-once}
 use Rattle.cli_shell.specs.Determined.{IsFunctional}
 use Rattle.cli_shell.specs.Said.{prints}

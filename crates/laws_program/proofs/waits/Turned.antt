@@ -1,5 +1,5 @@
 -- A waiter's way over a script, ask by ask: it is one way.
-use Rattle.std.proofs.Common.{◌≡◌, ◌⊎◌, inl, inr, ℕ, ◌+◌, ◌-◌, ◌≤◌, ◌<◌, Bool, true, false, Option, Some, Ok, min, ◌^◌, zero, suc, arith, ap, sym, subst, refl, ◌∙◌}
+use Rattle.std.proofs.Common.{◌≡◌, ◌⊎◌, inl, inr, ℕ, ◌+◌, ◌-◌, ◌≤◌, Bool, true, false, Option, Some, Ok, min, ◌^◌, zero, suc, arith, ap, sym, subst, ◌∙◌}
 use Rattle.std.specs.Prelude.{◌==◌, ◌||◌}
 use Rattle.smithy_types.specs.declared.timers.TimersCall.TheVariants.{Now, Start, Ready}
 use Rattle.waiters.specs.Delay.{IsDelay}
@@ -7,14 +7,13 @@ use Rattle.waiters.specs.Walk.{goes_on}
 use Rattle.waiters.specs.declared.timers.PollAnswer.TheVariants as poll
 use Rattle.waiters.specs.declared.timers.WaiterCall.{WaiterCall}
 use Rattle.waiters.specs.declared.timers.WaiterCall.TheVariants.{Timers, Word, Park, Poll}
-use Rattle.outside_scripted.specs.Words.{next_word}
 use Rattle.cli_wait.specs.declared.ending.WaitEnding.{WaitEnding}
 use Rattle.cli_wait.specs.declared.ending.WaitEnding.TheVariants as endings
 use Rattle.cli_wait.specs.declared.polls.ScriptedPoll.{ScriptedPoll}
 use Rattle.cli_wait.specs.declared.scripted_timers.ScriptedTimers.{ScriptedTimers}
 use Rattle.cli_wait.specs.Makes.{Makes}
 use Rattle.cli_wait.specs.Polls.{poll_at}
-use Rattle.laws_program.proofs.waits.Asked.{EndedAt, ended_by, found_of, verdict_of}
+use Rattle.laws_program.proofs.waits.Asked.{EndedAt, verdict_of}
 use Rattle.laws_program.proofs.waits.Calls.{answered_once, moves, one_delay, one_sleep, one_word, over_once}
 
 -- whether the operation is asked next, or a sleep

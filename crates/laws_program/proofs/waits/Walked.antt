@@ -1,5 +1,5 @@
 -- A waiter's walk is a way, ask by ask.
-use Rattle.std.proofs.Common.{◌≡◌, ◌≢◌, inl, inr, ℕ, ◌+◌, ◌-◌, ◌≤◌, ◌⊎◌, Bool, true, false, List, [], ◌∷◌, ◌++◌, Option, Some, Ok, Err, length, zero, suc, arith, ap, sym, subst, refl, ◌∙◌, map, cond, append-nil, append_assoc}
+use Rattle.std.proofs.Common.{◌≡◌, inl, inr, ℕ, ◌+◌, ◌-◌, ◌≤◌, ◌⊎◌, Bool, true, false, List, [], ◌∷◌, ◌++◌, Option, Some, Ok, Err, length, zero, suc, arith, ap, sym, subst, refl, ◌∙◌, map, cond, append-nil, append_assoc}
 use Rattle.std.specs.Prelude.{◌==◌, ◌||◌}
 use Rattle.std.proofs.lemmas.Bool.{ne_eqb}
 use Rattle.smithy_types.specs.declared.timers.TimersCall.TheVariants.{Now, Start, Ready}
@@ -10,7 +10,7 @@ use Rattle.waiters.specs.WalkCalls.{Rest, Waits, delay_calls, ended, poll_calls,
 use Rattle.waiters.specs.declared.backoff.Backoff.{Backoff}
 use Rattle.waiters.specs.declared.outcome.WaiterError.TheVariants as end
 use Rattle.waiters.specs.declared.timers.WaiterCall.{WaiterCall}
-use Rattle.waiters.specs.declared.timers.WaiterCall.TheVariants.{Timers, Word, Park}
+use Rattle.waiters.specs.declared.timers.WaiterCall.TheVariants.{Timers, Word}
 use Rattle.cli_wait.specs.declared.ending.WaitEnding.{WaitEnding}
 use Rattle.cli_wait.specs.declared.ending.WaitEnding.TheVariants as endings
 use Rattle.cli_wait.specs.declared.polls.PolledValue.{PolledValue}

@@ -62,13 +62,13 @@ module _ {C I : Type 0} where
   pub record GrewAt (line : List ℕ) (old : Session (ServedClient C I)) (entries : List Entry)
       (new : Session (ServedClient C I)) : Type 0 where
     pub number : ℕ
-    pub message : SeatMessage
-    pub is : IsMessage line (message.Seat number message)
+    pub asked : SeatMessage
+    pub is : IsMessage line (message.Seat number asked)
     pub seat : Seat (ServedClient C I)
     pub stands : slice_get old.seats.items number ≡ Some seat
     pub after : Seat (ServedClient C I)
     pub stands_after : slice_get new.seats.items number ≡ Some after
-    pub grew : Grew message seat.world.components.log entries after.world.components.log
+    pub grew : Grew asked seat.world.components.log entries after.world.components.log
 
   module _ (says : C → InterceptorContext → RetryAction → RetryAction) (chain : InterceptorMeans I) where
     -- An entry that a seat's client answers makes this of the registers. Only where its question calls the quota it
