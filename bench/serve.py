@@ -21,6 +21,7 @@ from compare import has_checks, measured_program, output, what_it_is, without_sy
 
 TOP = pathlib.Path(__file__).resolve().parent.parent
 SECOND = 10**9
+STEP = 10**5
 FUEL = 1000
 COUNTS = [100, 1000, 10000]
 LAST = (b'["opened"', b'["park"', b'["done"', b'["refused"', b'["end"]')
@@ -72,12 +73,12 @@ def response(call: int, status: int, body: str) -> List[Any]:
 
 
 def conversation(kind: Kind, count: int) -> Iterator[Any]:
-    """What a host says for so many runs, a second apart from each other."""
+    """What a host says for so many runs, a tenth of a millisecond apart from each other."""
     yield description(kind)
     payload = [1, json.dumps(REQUEST, separators=(",", ":"))]
     now = call = 0
     for run in range(count):
-        now += SECOND
+        now += STEP
         yield ["invoke", 0, now, payload, FUEL, "None", kind.is_logged]
         if kind.auth != "none" and run == 0:
             yield ["at", 0, now, [["identity", "key", ["secret", None]]]]
