@@ -672,7 +672,7 @@ class UseTest(HostTest):
 
     def test_what_no_engine_can_be_made_of_is_refused_with_its_reason(self):
         bucket = wishqoram.Bucket(capacity=500_000_001)
-        with self.assertRaisesRegex(wishqoram.ProgramEnded, "ended with 6: .*passes a limit"):
+        with self.assertRaisesRegex(wishqoram.ProgramEnded, "ended with 6: .*above the limit of a capacity"):
             Engine({"a": Client("http://localhost")}, {"b": bucket}, program=path())
         with self.assertRaises(wishqoram.ProgramNotFound):
             Engine({"a": Client("http://localhost")}, program="/no/such/program")

@@ -571,7 +571,7 @@ class UseTest(HostTest):
     def test_what_no_engine_can_be_made_of_is_refused_with_its_reason(self):
         url = "http://localhost"
         for settings, reason in [
-            ({"bucket": 500_000_001}, "ended with status 6: .*passes a limit"),
+            ({"bucket": 500_000_001}, "ended with status 6: .*above the limit of a capacity"),
             ({"program": "/no/such/program"}, "no program: /no/such/program"),
             ({"bucket_name": "none"}, "there is no bucket none"),
         ]:
