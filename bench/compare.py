@@ -120,7 +120,7 @@ def without_symbols(path: str, copy: pathlib.Path) -> str:
 
 
 def ended(words: List[str], path: pathlib.Path) -> Tuple[int, bytes]:
-    """How a command ends over a script, and what it prints. That answers are left over is no news."""
+    """How a command ends over a script, and what it prints on standard output."""
     pipes = {"stdout": subprocess.PIPE, "stderr": subprocess.DEVNULL}
     with open(path, "rb") as source:
         run = subprocess.run(words, stdin=source, **pipes)
